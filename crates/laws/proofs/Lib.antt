@@ -1,0 +1,6 @@
+-- The laws that every layer's proofs share.
+pub mod Cases
+pub mod First
+pub mod Trials
+pub mod Upwards
+pub mod BigEndian

@@ -1,0 +1,129 @@
+-- What a verdict says of its row, for any row; rows one after the other; a loop over them.
+use Prim.Native.Nat.{ℕ, zero, suc, _+_, _<_, _≤_, suc-le-suc}
+use mathlib.Core.Path.{_≡_, refl, sym, ap, _∙_}
+use mathlib.Core.Bool.{Bool, true, false}
+use mathlib.Core.List.{List, [], _∷_, _++_}
+use mathlib.Core.Logic.{_↔_}
+use native.Mathlib.Numerals.{add-one}
+use native.Mathlib.Omega.{arith}
+use native.Mathlib.Decide.{le-ind}
+use lib.ListN.{length, getD}
+use Rattle.laws.specs.Choose.{if_then_else_}
+use Rattle.laws.specs.Trials.{Trial, trial, Says, answers, refuses, verdict, rows, Passes, FirstToFail, RefusesExactly, AcceptsExactly}
+
+-- a refusal is no answer
+pub never : {A : Type 0} (a : A) (n p : ℕ) → refuses n p ≡ answers a → ⊥
+never a n p e = let z : _≡_ {A = ℕ} 0 1 = cc in omega arith
+
+-- an answer: every trial passed, and the answer is the one given
+pub passed : {A : Type 0} (ts : List Trial) (a b : A) → verdict ts a ≡ answers b → Passes ts × (a ≡ b)
+unfolding verdict
+passed [] a b e = (tt, cc)
+passed (t ∷ ts) a b e = go (t .fails) refl e (passed ts a b)
+  where
+    go : (x : Bool) → t .fails ≡ x → (if x then refuses (t .number) (t .place) else verdict ts a) ≡ answers b
+        → (verdict ts a ≡ answers b → Passes ts × (a ≡ b)) → ((t .fails ≡ false) × Passes ts) × (a ≡ b)
+    go true h q more = absurd (never b _ _ q)
+    go false h q more = ((h, more q .0), more q .1)
+
+pub passes-accepts : {A : Type 0} (ts : List Trial) (a : A) → Passes ts → verdict ts a ≡ answers a
+unfolding verdict
+passes-accepts [] a h = refl
+passes-accepts (t ∷ ts) a h = rw (h .0) (passes-accepts ts a (h .1))
+
+pub accepts-exactly : AcceptsExactly
+accepts-exactly A ts a = (λ e. passed ts a a e .0, passes-accepts ts a)
+
+-- rows one after the other
+pub passed-then : {A B : Type 0} (xs ys : List Trial) (a : A) (b : B) → verdict xs a ≡ answers a → verdict (xs ++ ys) b ≡ verdict ys b
+unfolding verdict
+passed-then [] ys a b e = refl
+passed-then (t ∷ xs) ys a b e =
+    let h : Passes (t ∷ xs) = passed (t ∷ xs) a a e .0 in
+    rw (h .0) (passed-then xs ys a b (passes-accepts xs a (h .1)))
+
+pub refused-then : {A B : Type 0} (xs ys : List Trial) (a : A) (b : B) (n p : ℕ) → verdict xs a ≡ refuses n p → verdict (xs ++ ys) b ≡ refuses n p
+unfolding verdict
+refused-then [] ys a b n p e = absurd (never a n p (sym e))
+refused-then (t ∷ xs) ys a b n p e = go (t .fails) e (refused-then xs ys a b n p)
+  where
+    go : (x : Bool) → (if x then refuses (t .number) (t .place) else verdict xs a) ≡ refuses n p
+        → (verdict xs a ≡ refuses n p → verdict (xs ++ ys) b ≡ refuses n p)
+        → (if x then refuses (t .number) (t .place) else verdict (xs ++ ys) b) ≡ refuses n p
+    go true q more = cc
+    go false q more = more q
+
+pub passes-append : (xs ys : List Trial) → Passes (xs ++ ys) → Passes xs × Passes ys
+passes-append [] ys h = (tt, h)
+passes-append (t ∷ xs) ys h = ((h .0, passes-append xs ys (h .1) .0), passes-append xs ys (h .1) .1)
+
+pub passes-both : (xs ys : List Trial) → Passes xs → Passes ys → Passes (xs ++ ys)
+passes-both [] ys h g = g
+passes-both (t ∷ xs) ys h g = (h .0, passes-both xs ys (h .1) g)
+
+-- every row passes where the rows do
+pub passes-row : (f : ℕ → List Trial) (n i : ℕ) → i < n → Passes (rows n f) → Passes (f i)
+unfolding rows
+passes-row f n i l =
+    le-ind (λ (k : ℕ). Passes (rows k f) → Passes (f i)) (λ h. passes-append (rows i f) (f i) h .1)
+    (λ k q more h. more (passes-append (rows k f) (f k) h .0)) n l
+
+-- a loop over the rows: it begins; a turn that passes; a turn that fails; it ends
+pub rows-none : (f : ℕ → List Trial) → verdict (rows 0 f) (tt {0}) ≡ answers tt
+unfolding verdict rows
+rows-none f = refl
+
+pub rows-more : (f : ℕ → List Trial) (i : ℕ) → verdict (rows i f) (tt {0}) ≡ answers tt → verdict (f i) (tt {0}) ≡ answers tt
+    → verdict (rows (i + 1) f) (tt {0}) ≡ answers tt
+unfolding rows
+rows-more f i h e = rw add-one (passed-then (rows i f) (f i) tt tt h ∙ e)
+
+pub rows-found : (f : ℕ → List Trial) (i m n p : ℕ) → verdict (rows i f) (tt {0}) ≡ answers tt → verdict (f i) (tt {0}) ≡ refuses n p → i < m
+    → verdict (rows m f) (tt {0}) ≡ refuses n p
+unfolding rows
+rows-found f i m n p h e l =
+    le-ind (λ (k : ℕ). verdict (rows k f) (tt {0}) ≡ refuses n p) (passed-then (rows i f) (f i) tt tt h ∙ e)
+    (λ k q r. refused-then (rows k f) (f k) tt tt n p r) m l
+
+pub rows-all : (f : ℕ → List Trial) (i n : ℕ) → verdict (rows i f) (tt {0}) ≡ answers tt → i ≡ n → verdict (rows n f) (tt {0}) ≡ answers tt
+rows-all f i n h e = rw e at h
+
+-- the first trial to fail, of a row with one more trial before it
+later : (t : Trial) (ts : List Trial) (n p : ℕ) → t .fails ≡ false → FirstToFail ts n p → FirstToFail (t ∷ ts) n p
+later t ts n p e w = record { index = suc (w .index); within = suc-le-suc (w .within); here = w .here; earlier = before }
+  where
+    before : (j : ℕ) → j < suc (w .index) → getD (t ∷ ts) j (trial false 0 0) .fails ≡ false
+    before zero l = e
+    before (suc j) l = w .earlier j (omega arith)
+
+to : {A : Type 0} (ts : List Trial) (a : A) (n p : ℕ) → verdict ts a ≡ refuses n p → FirstToFail ts n p
+unfolding verdict
+to [] a n p e = absurd (never a n p (sym e))
+to (t ∷ ts) a n p e = go (t .fails) refl e (to ts a n p)
+  where
+    go : (x : Bool) → t .fails ≡ x → (if x then refuses (t .number) (t .place) else verdict ts a) ≡ refuses n p
+        → (verdict ts a ≡ refuses n p → FirstToFail ts n p) → FirstToFail (t ∷ ts) n p
+    go true h q more =
+        let same-number : t .number ≡ n = cc in
+        let same-place : t .place ≡ p = cc in
+        let same : t ≡ trial true n p = λ i. record { fails = h i; number = same-number i; place = same-place i } in
+        record { index = 0; within = omega arith; here = same; earlier = λ j l. absurd (omega arith) }
+    go false h q more = later t ts n p h (more q)
+
+fro : {A : Type 0} (ts : List Trial) (a : A) (n p : ℕ) → FirstToFail ts n p → verdict ts a ≡ refuses n p
+unfolding verdict
+fro [] a n p w = absurd (omega (arith, w .within))
+fro (t ∷ ts) a n p w = go (w .index) refl (fro ts a n p)
+  where
+    go : (i : ℕ) → w .index ≡ i → (FirstToFail ts n p → verdict ts a ≡ refuses n p) → verdict (t ∷ ts) a ≡ refuses n p
+    go zero e more =
+        let h : t ≡ trial true n p = rw e at (w .here) in
+        rw h refl
+    go (suc i) e more =
+        let passes : t .fails ≡ false = w .earlier 0 (omega arith) in
+        let here : getD ts i (trial false 0 0) ≡ trial true n p = rw e at (w .here) in
+        let l : suc i < suc (length ts) = rw e at (w .within) in
+        rw passes (more (record { index = i; within = omega arith; here = here; earlier = λ j k. w .earlier (suc j) (omega arith) }))
+
+pub refuses-exactly : RefusesExactly
+refuses-exactly A ts a n p = (to ts a n p, fro ts a n p)

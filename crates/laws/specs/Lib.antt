@@ -1,0 +1,6 @@
+-- What every layer's definitions share.
+pub mod Choose
+pub mod First
+pub mod Trials
+pub mod Upwards
+pub mod BigEndian

@@ -1,0 +1,3 @@
+-- Laws on nights.
+pub mod Children
+pub mod Views

@@ -1,0 +1,48 @@
+// The values of a plan file as read, every field: what the definitions of a night are over, and what
+// reading hands out. No functions.
+
+// The header's values.
+pub struct Header {
+    pub version: u16,
+    pub subjects: u8,
+    pub relations: u8,
+    pub attributes: u8,
+    pub nodes: u8,
+    pub grants: u16,
+    pub steps: u32,
+}
+
+// A relation: its owner and its attributes.
+pub struct Relation {
+    pub owner: u8,
+    pub set: u64,
+}
+
+// A grant on a relation to a subject, or to any (255): the attributes in clear, and those sealed.
+pub struct Grant {
+    pub relation: u8,
+    pub subject: u8,
+    pub clear: u64,
+    pub sealed: u64,
+}
+
+// A node of the query, with its three spare bytes.
+pub struct Node {
+    pub kind: u8,
+    pub left: u8,
+    pub right: u8,
+    pub x: u8,
+    pub y: u8,
+    pub spare1: u8,
+    pub spare2: u8,
+    pub spare3: u8,
+    pub set: u64,
+    pub needed: u64,
+    pub size: u32,
+}
+
+// What a subject sees: attributes in clear, and attributes sealed.
+pub struct View {
+    pub clear: u64,
+    pub sealed: u64,
+}

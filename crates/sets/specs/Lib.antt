@@ -1,0 +1,2 @@
+-- Sets of attributes and of subjects, as the numbers that the machine's words are.
+pub mod Sets

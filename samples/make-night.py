@@ -1,0 +1,104 @@
+#!/usr/bin/env python3
+"""Writes document 01's sample night as samples/night.axp and as the list of bytes in the specs,
+and the input of the program facts: the sample night followed by a file of the greatest length.
+
+Run from the repository's root. The sample's grants are those of figure 4 of source document 004.
+"""
+import struct
+
+ATTRIBUTES = "SBDTCP"
+SUBJECTS = "HIUXYZ"
+ANY = 255
+NONE = 255
+# relation: owner, attributes, and for each subject (* is any) what is seen in clear and sealed
+RELATIONS = [
+    ("H", "SBDT", "H SBDT - I B SDT U SDT - X DT S Y BDT S Z ST D * DT -"),
+    ("I", "CP", "H C P I CP - U CP - X - CP Y P C Z C P * - P"),
+]
+LEAF, SELECT, PRODUCT, JOIN, AGGREGATE = 0, 2, 4, 5, 6
+# kind, left, right, x, y, set, needed, size
+NODES = [
+    (LEAF, NONE, NONE, 0, NONE, "SDT", "", 4),
+    (SELECT, 0, NONE, "D", NONE, "", "", 2),
+    (LEAF, NONE, NONE, 1, NONE, "CP", "", 4),
+    (JOIN, 1, 2, "S", "C", "", "", 3),
+    (AGGREGATE, 3, NONE, "P", NONE, "T", "", 1),
+    (SELECT, 4, NONE, "P", NONE, "", "P", 1),
+]
+STEP_PRICES = [3, 3, 10, 1, 2, 1]
+LINK_PRICE = 1
+STEPS_ALLOWED = 76
+
+
+def bits(names):
+    return sum(1 << ATTRIBUTES.index(name) for name in names if name != "-")
+
+
+def number(field):
+    return ATTRIBUTES.index(field) if isinstance(field, str) else field
+
+
+def grants():
+    for r, (_, _, row) in enumerate(RELATIONS):
+        words = row.split()
+        for who, clear, sealed in zip(words[0::3], words[1::3], words[2::3]):
+            subject = ANY if who == "*" else SUBJECTS.index(who)
+            yield (r, subject, bits(clear), bits(sealed))
+
+
+def file_of(s, a, relations, granted, nodes, step_prices, link_price):
+    """The bytes of a plan file; a node is kind, left, right, x, y, set, needed, size."""
+    parts = [b"AXP", struct.pack(">HBBBBHI", 1, s, len(relations), a, len(nodes), len(granted), STEPS_ALLOWED)]
+    parts += [struct.pack(">BQ", *relation) for relation in relations]
+    parts += [struct.pack(">BBQQ", *grant) for grant in granted]
+    parts += [struct.pack(">BBBBB3xQQI", *node) for node in nodes]
+    for node in nodes:
+        parts.append(struct.pack(">%dI" % s, *([0] * s if node[0] == LEAF else step_prices)))
+    for sender in range(s):
+        parts.append(struct.pack(">%dI" % s, *(0 if to == sender else link_price for to in range(s))))
+    return b"".join(parts)
+
+
+def sample():
+    relations = [(SUBJECTS.index(owner), bits(names)) for owner, names, _ in RELATIONS]
+    nodes = [(k, left, right, number(x), number(y), bits(held), bits(needed), size) for k, left, right, x, y, held, needed, size in NODES]
+    return file_of(len(SUBJECTS), len(ATTRIBUTES), relations, list(grants()), nodes, STEP_PRICES, LINK_PRICE)
+
+
+def longest():
+    """Every count at its limit, all 64 bits of the sets in use: 16 leaves, 15 products over them, 33 selects on top."""
+    sets = [0xF << 4 * r for r in range(16)]
+    relations = [(r, sets[r]) for r in range(16)]
+    granted = [(r, p, sets[r] if p == r else 0, 0 if p == r else sets[r]) for r in range(16) for p in [*range(16), ANY]]
+    nodes = [(LEAF, NONE, NONE, r, NONE, sets[r], 0, 1_000_000) for r in range(16)]
+    for r in range(1, 16):
+        nodes.append((PRODUCT, 0 if r == 1 else len(nodes) - 1, r, NONE, NONE, 0, 0, 1_000_000))
+    while len(nodes) < 64:
+        nodes.append((SELECT, len(nodes) - 1, NONE, len(nodes) - 1, NONE, 0, 0, 1_000_000))
+    return file_of(16, 64, relations, granted, nodes, [1_000_000] * 16, 1_000)
+
+
+def as_list(data):
+    rows = [data[at : at + 24] for at in range(0, len(data), 24)]
+    return "\n".join("    " + " ".join("%d ∷" % byte for byte in row) for row in rows) + " []"
+
+
+def main():
+    data = sample()
+    with open("samples/night.axp", "wb") as out:
+        out.write(data)
+    with open("crates/facts/stdin", "wb") as out:
+        out.write(data + longest())
+    with open("crates/reading/specs/Sample.antt", "w", encoding="utf-8") as out:
+        out.write(
+            "-- Document 01's sample night as bytes, written by samples/make-night.py.\n"
+            "use Prim.Native.Nat.{ℕ}\n"
+            "use mathlib.Core.List.{List, [], _∷_}\n\n"
+            "-- the file samples/night.axp\n"
+            "unfoldable pub sample : List ℕ\n"
+            "sample =\n" + as_list(data) + "\n"
+        )
+
+
+if __name__ == "__main__":
+    main()
