@@ -1,15 +1,14 @@
 -- How a loop that looks for the first number is proved, and what the number is.
-use Prim.Native.Nat.{ℕ, zero, suc, _+_, _<_, _≤_}
-use mathlib.Core.Path.{_≡_, refl, sym, _∙_}
+use Prim.Native.Nat.{ℕ, zero, suc, _+_, _<_}
+use mathlib.Core.Path.{_≡_, refl}
 use mathlib.Core.Bool.{Bool, true, false}
 use native.Mathlib.Numerals.{add-one}
 use native.Mathlib.Omega.{arith}
 use native.Mathlib.Decide.{le-ind}
 use lib.Dec.{ltb}
-use lib.Arith.{lt-of-le-ne}
 use borrow.Author.Tests.{lt-ltb, le-ltb, ltb-true, ltb-false}
 use Rattle.laws.specs.Choose.{if_then_else_}
-use Rattle.laws.specs.First.{first, any}
+use Rattle.laws.specs.First.{first, somewhere}
 
 -- a loop begins
 pub first-none : (p : ℕ → Bool) → first p 0 ≡ 0
@@ -37,13 +36,13 @@ first-found p i n h e l = le-ind (λ (m : ℕ). first p m ≡ i) (first-here p i
 pub first-all : (p : ℕ → Bool) (i n : ℕ) → first p i ≡ i → i ≡ n → first p n ≡ n
 first-all p i n h e = rw e at h
 
-pub any-found : (p : ℕ → Bool) (i n : ℕ) → first p i ≡ i → p i ≡ true → i < n → any p n ≡ true
-unfolding any
-any-found p i n h t l = rw (first-found p i n h t l) (lt-ltb i n l)
+pub somewhere-found : (p : ℕ → Bool) (i n : ℕ) → first p i ≡ i → p i ≡ true → i < n → somewhere p n ≡ true
+unfolding somewhere
+somewhere-found p i n h t l = rw (first-found p i n h t l) (lt-ltb i n l)
 
-pub any-none : (p : ℕ → Bool) (i n : ℕ) → first p i ≡ i → i ≡ n → any p n ≡ false
-unfolding any
-any-none p i n h e = rw (first-all p i n h e) (le-ltb n n (omega arith))
+pub somewhere-none : (p : ℕ → Bool) (i n : ℕ) → first p i ≡ i → i ≡ n → somewhere p n ≡ false
+unfolding somewhere
+somewhere-none p i n h e = rw (first-all p i n h e) (le-ltb n n (omega arith))
 
 -- every number below the first fails the test
 pub first-below : (p : ℕ → Bool) (n k : ℕ) → k < first p n → p k ≡ false
@@ -75,11 +74,11 @@ first-holds p (suc n) h = go (ltb (first p n) n) (p n) refl refl h (first-holds 
     go false false e q h holds = absurd (omega arith)
 
 -- the test holds nowhere below n
-pub any-false : (p : ℕ → Bool) (n : ℕ) → any p n ≡ false → (k : ℕ) → k < n → p k ≡ false
-unfolding any
-any-false p n e k l = first-below p n k (omega (arith, ltb-false (first p n) n e))
+pub somewhere-false : (p : ℕ → Bool) (n : ℕ) → somewhere p n ≡ false → (k : ℕ) → k < n → p k ≡ false
+unfolding somewhere
+somewhere-false p n e k l = first-below p n k (omega (arith, ltb-false (first p n) n e))
 
 -- the test holds at some number below n
-pub any-true : (p : ℕ → Bool) (n : ℕ) → any p n ≡ true → (k : ℕ) × (k < n) × (p k ≡ true)
-unfolding any
-any-true p n e = (first p n, ltb-true (first p n) n e, first-holds p n (ltb-true (first p n) n e))
+pub somewhere-true : (p : ℕ → Bool) (n : ℕ) → somewhere p n ≡ true → (k : ℕ) × (k < n) × (p k ≡ true)
+unfolding somewhere
+somewhere-true p n e = (first p n, ltb-true (first p n) n e, first-holds p n (ltb-true (first p n) n e))

@@ -1,9 +1,8 @@
 -- What a verdict says of its row, for any row; rows one after the other; a loop over them.
-use Prim.Native.Nat.{ℕ, zero, suc, _+_, _<_, _≤_, suc-le-suc}
-use mathlib.Core.Path.{_≡_, refl, sym, ap, _∙_}
+use Prim.Native.Nat.{ℕ, zero, suc, _+_, _<_, suc-le-suc}
+use mathlib.Core.Path.{_≡_, refl, sym, _∙_}
 use mathlib.Core.Bool.{Bool, true, false}
 use mathlib.Core.List.{List, [], _∷_, _++_}
-use mathlib.Core.Logic.{_↔_}
 use native.Mathlib.Numerals.{add-one}
 use native.Mathlib.Omega.{arith}
 use native.Mathlib.Decide.{le-ind}
@@ -52,6 +51,13 @@ refused-then (t ∷ xs) ys a b n p e = go (t .fails) e (refused-then xs ys a b n
         → (if x then refuses (t .number) (t .place) else verdict (xs ++ ys) b) ≡ refuses n p
     go true q more = cc
     go false q more = more q
+
+-- a part of the code tries the first rows, and goes on only where they pass: what it answers in each case
+pub stops-at : (xs ys : List Trial) (r : Says (Unit {0})) (n p : ℕ) → r ≡ verdict xs tt → r ≡ refuses n p → r ≡ verdict (xs ++ ys) tt
+stops-at xs ys r n p e f = f ∙ sym (refused-then xs ys tt tt n p (sym e ∙ f))
+
+pub goes-on : (xs ys : List Trial) (r q : Says (Unit {0})) → r ≡ verdict xs tt → r ≡ answers tt → q ≡ verdict ys tt → q ≡ verdict (xs ++ ys) tt
+goes-on xs ys r q e f g = g ∙ sym (passed-then xs ys tt tt (sym e ∙ f))
 
 pub passes-append : (xs ys : List Trial) → Passes (xs ++ ys) → Passes xs × Passes ys
 passes-append [] ys h = (tt, h)

@@ -10,5 +10,5 @@ first p zero = zero
 first p (suc n) = if ltb (first p n) n then first p n else if p n then n else suc n
 
 -- the test holds at some number below n
-unfoldable pub any : (ℕ → Bool) → ℕ → Bool
-any p n = ltb (first p n) n
+unfoldable pub somewhere : (ℕ → Bool) → ℕ → Bool
+somewhere p n = ltb (first p n) n

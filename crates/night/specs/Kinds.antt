@@ -1,12 +1,11 @@
 -- The kinds of node: what each uses, what it reads, what is visible after it.
-use Prim.Native.Nat.{ℕ, _<_}
-use mathlib.Core.Path.{_≡_}
-use mathlib.Core.Bool.{Bool, true, false, not}
+use Prim.Native.Nat.{ℕ}
+use mathlib.Core.Bool.{Bool, false, not}
 use mathlib.Core.List.{List, [], _∷_}
 use lib.Dec.{eqb}
 use lib.ListN.{getD}
 use Rattle.laws.specs.Choose.{if_then_else_, anyOf}
-use Rattle.laws.specs.First.{any}
+use Rattle.laws.specs.First.{somewhere}
 use Rattle.laws.specs.Upwards.{upwards}
 use Rattle.sets.specs.Sets.{union, minus, single}
 use Rattle.night.specs.declared.Node.{Node}
@@ -89,4 +88,4 @@ isChild v c = anyOf ((if usesLeft (v .kind) then eqb (v .left) c else false) ∷
 
 -- node number c is an operand of a node before i
 unfoldable pub taken : Night → ℕ → ℕ → Bool
-taken N i c = any (λ j. isChild (nodeOf N j) c) i
+taken N i c = somewhere (λ j. isChild (nodeOf N j) c) i

@@ -16,7 +16,7 @@ pub record Night : Type 0 where
   pub stepPrices : List (List ℕ)
   pub linkPrices : List (List ℕ)
 
--- what stands past the end of a list of records
+-- what stands past the end of a list of records; no rule looks there
 abbrev pub noRelation : Relation
 noRelation = record { owner = 0; set = 0 }
 

@@ -1,6 +1,6 @@
 -- What a subject sees.
 use Prim.Native.Nat.{ℕ}
-use mathlib.Core.Bool.{Bool, true, false}
+use mathlib.Core.Bool.{Bool, false}
 use lib.Dec.{eqb, ltb}
 use Rattle.laws.specs.Choose.{if_then_else_}
 use Rattle.laws.specs.First.{first}
@@ -38,3 +38,7 @@ clearOf N p = unions (λ r. viewOf N p r .clear) (N .header .relations)
 
 unfoldable pub sealedOf : Night → ℕ → ℕ
 sealedOf N p = unions (λ r. viewOf N p r .sealed) (N .header .relations)
+
+-- both together
+abbrev pub overall : Night → ℕ → View
+overall N p = record { clear = clearOf N p; sealed = sealedOf N p }

@@ -1,8 +1,7 @@
 #!/usr/bin/env python3
-"""Writes document 01's sample night as samples/night.axp and as the list of bytes in the specs,
-and the input of the program facts: the sample night followed by a file of the greatest length.
+"""Writes document 01's sample night as samples/night.axp and as the list of bytes in the specs.
 
-Run from the repository's root. The sample's grants are those of figure 4 of source document 004.
+Run from the repository's root. The grants are those of figure 4 of source document 004.
 """
 import struct
 
@@ -15,7 +14,7 @@ RELATIONS = [
     ("H", "SBDT", "H SBDT - I B SDT U SDT - X DT S Y BDT S Z ST D * DT -"),
     ("I", "CP", "H C P I CP - U CP - X - CP Y P C Z C P * - P"),
 ]
-LEAF, SELECT, PRODUCT, JOIN, AGGREGATE = 0, 2, 4, 5, 6
+LEAF, PROJECT, SELECT, COMPARE, PRODUCT, JOIN, AGGREGATE, COUNT, FUNCTION = range(9)
 # kind, left, right, x, y, set, needed, size
 NODES = [
     (LEAF, NONE, NONE, 0, NONE, "SDT", "", 4),
@@ -65,6 +64,31 @@ def sample():
     return file_of(len(SUBJECTS), len(ATTRIBUTES), relations, list(grants()), nodes, STEP_PRICES, LINK_PRICE)
 
 
+def all_kinds():
+    """A night with every kind of node, an owner that is served by any, and a grant of two empty sets."""
+    relations = [(0, 0b111), (1, 0b11000), (2, 0b11100000)]
+    granted = [(0, 0, 0b111, 0), (0, 1, 0, 0), (1, 1, 0b11000, 0), (2, ANY, 0b11100000, 0)]
+    nodes = [
+        (LEAF, NONE, NONE, 0, NONE, 0b111, 0, 9),
+        (PROJECT, 0, NONE, NONE, NONE, 0b11, 0, 9),
+        (COMPARE, 1, NONE, 0, 1, 0, 0, 9),
+        (LEAF, NONE, NONE, 1, NONE, 0b11000, 0, 9),
+        (PRODUCT, 2, 3, NONE, NONE, 0, 0, 9),
+        (LEAF, NONE, NONE, 2, NONE, 0b11100000, 0, 9),
+        (JOIN, 4, 5, 3, 5, 0, 0, 9),
+        (FUNCTION, 6, NONE, 6, NONE, 0b1010000, 0, 9),
+        (SELECT, 7, NONE, 7, NONE, 0, 0, 9),
+        (AGGREGATE, 8, NONE, 6, NONE, 0b11, 0, 9),
+        (COUNT, 9, NONE, NONE, NONE, 0b1000001, 0, 9),
+    ]
+    return file_of(3, 8, relations, granted, nodes, [5, 6, 7], 1)
+
+
+def alone(granted):
+    """One leaf alone, of a relation with one attribute."""
+    return file_of(1, 1, [(0, 1)], granted, [(LEAF, NONE, NONE, 0, NONE, 1, 0, 0)], [0], 0)
+
+
 def longest():
     """Every count at its limit, all 64 bits of the sets in use: 16 leaves, 15 products over them, 33 selects on top."""
     sets = [0xF << 4 * r for r in range(16)]
@@ -87,11 +111,9 @@ def main():
     data = sample()
     with open("samples/night.axp", "wb") as out:
         out.write(data)
-    with open("crates/facts/stdin", "wb") as out:
-        out.write(data + longest())
     with open("crates/reading/specs/Sample.antt", "w", encoding="utf-8") as out:
         out.write(
-            "-- Document 01's sample night as bytes, written by samples/make-night.py.\n"
+            "-- Document 01's sample night as bytes, written by samples/night.py.\n"
             "use Prim.Native.Nat.{ℕ}\n"
             "use mathlib.Core.List.{List, [], _∷_}\n\n"
             "-- the file samples/night.axp\n"

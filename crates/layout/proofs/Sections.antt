@@ -1,0 +1,94 @@
+-- What stands at each number of a section, and past it.
+use Prim.Native.Nat.{ℕ, _+_, _*_, _<_, _≤_}
+use mathlib.Core.Path.{_≡_, refl}
+use mathlib.Core.Bool.{Bool, true, false}
+use mathlib.Core.List.{List, []}
+use native.Mathlib.Nat.{mul-le-mul}
+use native.Mathlib.Omega.{arith}
+use lib.Dec.{ltb}
+use lib.ListN.{getD}
+use borrow.Author.Tests.{ltb-true, ltb-false}
+use Rattle.laws.specs.BigEndian.{be}
+use Rattle.laws.specs.Upwards.{each}
+use Rattle.laws.proofs.Upwards.{each-at, each-past}
+use Rattle.night.specs.declared.Header.{Header}
+use Rattle.night.specs.Night.{relationOf, grantOf, nodeOf, stepPrice, linkPrice, noRelation, noGrant, noNode}
+use Rattle.layout.specs.Layout.{grantsFrom, nodesFrom, stepPricesFrom, linkPricesFrom, relationAt, grantAt, nodeAt, pricesAt, nightIn}
+
+-- the product of two numbers below 256
+pub product-lt : (a b : ℕ) → a < 256 → b < 256 → a * b < 65536
+product-lt a b h k = omega (arith, mul-le-mul {n₁ = a} {m₁ = b} {n₂ = 255} {m₂ = 255} (omega arith) (omega arith))
+
+-- a table of prices: at a row and a column, past the rows, past the columns
+module _ (s : List ℕ) (at rows columns i p : ℕ) where
+  abbrev price : ℕ → ℕ → ℕ
+  price i p = be s (at + 4 * (i * columns + p)) 4
+
+  row : i < rows → getD (pricesAt s at rows columns) i [] ≡ each columns (price i)
+  unfolding pricesAt
+  row l = each-at (λ i. each columns (price i)) [] i rows l
+
+  price-at : i < rows → p < columns → getD (getD (pricesAt s at rows columns) i []) p 0 ≡ price i p
+  unfolding pricesAt
+  price-at l k = rw (row l) (each-at (price i) 0 p columns k)
+
+  price-past-rows : rows ≤ i → getD (getD (pricesAt s at rows columns) i []) p 0 ≡ 0
+  unfolding pricesAt
+  price-past-rows l = rw (each-past (λ i. each columns (price i)) [] i rows l) refl
+
+  price-past-columns : columns ≤ p → getD (getD (pricesAt s at rows columns) i []) p 0 ≡ 0
+  unfolding pricesAt
+  price-past-columns k = go (ltb i rows) refl
+    where
+      go : (b : Bool) → ltb i rows ≡ b → getD (getD (pricesAt s at rows columns) i []) p 0 ≡ 0
+      go true e = rw (row (ltb-true i rows e)) (each-past (price i) 0 p columns k)
+      go false e = price-past-rows (ltb-false i rows e)
+
+module _ (s : List ℕ) (h : Header) (i : ℕ) where
+  pub relation-at : i < h .relations → relationOf (nightIn s h) i ≡ relationAt s (15 + 9 * i)
+  unfolding relationOf nightIn
+  relation-at l = each-at (λ k. relationAt s (15 + 9 * k)) noRelation i (h .relations) l
+
+  pub relation-past : h .relations ≤ i → relationOf (nightIn s h) i ≡ noRelation
+  unfolding relationOf nightIn
+  relation-past l = each-past (λ k. relationAt s (15 + 9 * k)) noRelation i (h .relations) l
+
+  pub grant-at : i < h .grants → grantOf (nightIn s h) i ≡ grantAt s (grantsFrom h + 18 * i)
+  unfolding grantOf nightIn
+  grant-at l = each-at (λ k. grantAt s (grantsFrom h + 18 * k)) noGrant i (h .grants) l
+
+  pub grant-past : h .grants ≤ i → grantOf (nightIn s h) i ≡ noGrant
+  unfolding grantOf nightIn
+  grant-past l = each-past (λ k. grantAt s (grantsFrom h + 18 * k)) noGrant i (h .grants) l
+
+  pub node-at : i < h .nodes → nodeOf (nightIn s h) i ≡ nodeAt s (nodesFrom h + 28 * i)
+  unfolding nodeOf nightIn
+  node-at l = each-at (λ k. nodeAt s (nodesFrom h + 28 * k)) noNode i (h .nodes) l
+
+  pub node-past : h .nodes ≤ i → nodeOf (nightIn s h) i ≡ noNode
+  unfolding nodeOf nightIn
+  node-past l = each-past (λ k. nodeAt s (nodesFrom h + 28 * k)) noNode i (h .nodes) l
+
+  pub step-price-at : (p : ℕ) → i < h .nodes → p < h .subjects → stepPrice (nightIn s h) i p ≡ be s (stepPricesFrom h + 4 * (i * h .subjects + p)) 4
+  unfolding stepPrice nightIn
+  step-price-at p = price-at s (stepPricesFrom h) (h .nodes) (h .subjects) i p
+
+  pub step-price-past-nodes : (p : ℕ) → h .nodes ≤ i → stepPrice (nightIn s h) i p ≡ 0
+  unfolding stepPrice nightIn
+  step-price-past-nodes p = price-past-rows s (stepPricesFrom h) (h .nodes) (h .subjects) i p
+
+  pub step-price-past-subjects : (p : ℕ) → h .subjects ≤ p → stepPrice (nightIn s h) i p ≡ 0
+  unfolding stepPrice nightIn
+  step-price-past-subjects p = price-past-columns s (stepPricesFrom h) (h .nodes) (h .subjects) i p
+
+  pub link-price-at : (q : ℕ) → i < h .subjects → q < h .subjects → linkPrice (nightIn s h) i q ≡ be s (linkPricesFrom h + 4 * (i * h .subjects + q)) 4
+  unfolding linkPrice nightIn
+  link-price-at q = price-at s (linkPricesFrom h) (h .subjects) (h .subjects) i q
+
+  pub link-price-past-from : (q : ℕ) → h .subjects ≤ i → linkPrice (nightIn s h) i q ≡ 0
+  unfolding linkPrice nightIn
+  link-price-past-from q = price-past-rows s (linkPricesFrom h) (h .subjects) (h .subjects) i q
+
+  pub link-price-past-to : (q : ℕ) → h .subjects ≤ q → linkPrice (nightIn s h) i q ≡ 0
+  unfolding linkPrice nightIn
+  link-price-past-to q = price-past-columns s (linkPricesFrom h) (h .subjects) (h .subjects) i q

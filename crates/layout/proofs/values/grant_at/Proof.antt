@@ -1,0 +1,43 @@
+-- Each field is read where the definition has it.
+use borrow.Author.Needs.{needs}
+use Rattle.layout.specs.Layout.{grantAt}
+use Rattle.layout.proofs.values.grant_at.Statement.{statement}
+use Rattle.layout.proofs.values.grant_at.Tie as tie
+
+byte-requires : tie.Need-byte-requires
+byte-requires c κs = search needs
+
+add-byte : tie.Need-add-byte
+add-byte c = search needs
+
+byte-requires-2 : tie.Need-byte-requires-2
+byte-requires-2 c κs = search needs
+
+add-eight : tie.Need-add-eight
+add-eight c = search needs
+
+eight-requires : tie.Need-eight-requires
+eight-requires c κs = search needs
+
+add-eight-2 : tie.Need-add-eight-2
+add-eight-2 c = search needs
+
+eight-requires-2 : tie.Need-eight-requires-2
+eight-requires-2 c κs = search needs
+
+returns : tie.Need-returns
+unfolding grantAt
+returns c = cc
+
+pub grant-at-spec : {M : Type 1} → statement M
+grant-at-spec =
+    tie.close
+    (tie.spec
+    byte-requires
+    add-byte
+    byte-requires-2
+    add-eight
+    eight-requires
+    add-eight-2
+    eight-requires-2
+    returns)

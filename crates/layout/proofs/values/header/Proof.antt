@@ -1,0 +1,43 @@
+-- Each field is read where the definition has it.
+use borrow.Author.Needs.{needs}
+use Rattle.layout.specs.Layout.{headerOf}
+use Rattle.layout.proofs.values.header.Statement.{statement}
+use Rattle.layout.proofs.values.header.Tie as tie
+
+two-requires : tie.Need-two-requires
+two-requires c κs = search needs
+
+byte-requires : tie.Need-byte-requires
+byte-requires c κs = search needs
+
+byte-requires-2 : tie.Need-byte-requires-2
+byte-requires-2 c κs = search needs
+
+byte-requires-3 : tie.Need-byte-requires-3
+byte-requires-3 c κs = search needs
+
+byte-requires-4 : tie.Need-byte-requires-4
+byte-requires-4 c κs = search needs
+
+two-requires-2 : tie.Need-two-requires-2
+two-requires-2 c κs = search needs
+
+four-requires : tie.Need-four-requires
+four-requires c κs = search needs
+
+returns : tie.Need-returns
+unfolding headerOf
+returns c = cc
+
+pub header-spec : {M : Type 1} → statement M
+header-spec =
+    tie.close
+    (tie.spec
+    two-requires
+    byte-requires
+    byte-requires-2
+    byte-requires-3
+    byte-requires-4
+    two-requires-2
+    four-requires
+    returns)

@@ -1,0 +1,21 @@
+-- Each field is read where the definition has it.
+use borrow.Author.Needs.{needs}
+use Rattle.layout.specs.Layout.{relationAt}
+use Rattle.layout.proofs.values.relation_at.Statement.{statement}
+use Rattle.layout.proofs.values.relation_at.Tie as tie
+
+byte-requires : tie.Need-byte-requires
+byte-requires c κs = search needs
+
+add-eight : tie.Need-add-eight
+add-eight c = search needs
+
+eight-requires : tie.Need-eight-requires
+eight-requires c κs = search needs
+
+returns : tie.Need-returns
+unfolding relationAt
+returns c = cc
+
+pub relation-at-spec : {M : Type 1} → statement M
+relation-at-spec = tie.close (tie.spec byte-requires add-eight eight-requires returns)

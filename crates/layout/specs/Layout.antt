@@ -1,0 +1,98 @@
+-- Where each record of the file stands, and the values that are read there. All numbers big-endian; a byte past the end counts as 0.
+use Prim.Native.Nat.{ℕ, _+_, _*_}
+use mathlib.Core.List.{List}
+use lib.ListN.{getD}
+use Rattle.laws.specs.BigEndian.{be}
+use Rattle.laws.specs.Upwards.{each}
+use Rattle.night.specs.declared.Header.{Header}
+use Rattle.night.specs.declared.Relation.{Relation}
+use Rattle.night.specs.declared.Grant.{Grant}
+use Rattle.night.specs.declared.Node.{Node}
+use Rattle.night.specs.Night.{Night}
+
+-- lengths of the header and of each record, by version
+abbrev pub headerLength : ℕ → ℕ
+headerLength version = 15
+
+abbrev pub relationLength : ℕ → ℕ
+relationLength version = 9
+
+abbrev pub grantLength : ℕ → ℕ
+grantLength version = 18
+
+abbrev pub nodeLength : ℕ → ℕ
+nodeLength version = 28
+
+-- where each section starts, and where the last one ends
+unfoldable pub grantsFrom : Header → ℕ
+grantsFrom h = headerLength (h .version) + relationLength (h .version) * h .relations
+
+unfoldable pub nodesFrom : Header → ℕ
+nodesFrom h = grantsFrom h + grantLength (h .version) * h .grants
+
+unfoldable pub stepPricesFrom : Header → ℕ
+stepPricesFrom h = nodesFrom h + nodeLength (h .version) * h .nodes
+
+unfoldable pub linkPricesFrom : Header → ℕ
+linkPricesFrom h = stepPricesFrom h + 4 * (h .nodes * h .subjects)
+
+unfoldable pub fileLength : Header → ℕ
+fileLength h = linkPricesFrom h + 4 * (h .subjects * h .subjects)
+
+-- the header's values: after the mark, version, subjects, relations, attributes, nodes, grants, steps allowed
+unfoldable pub headerOf : List ℕ → Header
+headerOf s =
+    record {
+      version = be s 3 2;
+      subjects = getD s 5 0;
+      relations = getD s 6 0;
+      attributes = getD s 7 0;
+      nodes = getD s 8 0;
+      grants = be s 9 2;
+      steps = be s 11 4;
+    }
+
+-- a relation: owner, set
+unfoldable pub relationAt : List ℕ → ℕ → Relation
+relationAt s at = record { owner = getD s at 0; set = be s (at + 1) 8 }
+
+-- a grant: relation, subject, set in clear, set sealed
+unfoldable pub grantAt : List ℕ → ℕ → Grant
+grantAt s at = record { relation = getD s at 0; subject = getD s (at + 1) 0; clear = be s (at + 2) 8; sealed = be s (at + 10) 8 }
+
+-- a node: kind, left, right, x, y, three spare bytes, set, needed in clear, size
+unfoldable pub nodeAt : List ℕ → ℕ → Node
+nodeAt s at =
+    record {
+      kind = getD s at 0;
+      left = getD s (at + 1) 0;
+      right = getD s (at + 2) 0;
+      x = getD s (at + 3) 0;
+      y = getD s (at + 4) 0;
+      spare1 = getD s (at + 5) 0;
+      spare2 = getD s (at + 6) 0;
+      spare3 = getD s (at + 7) 0;
+      set = be s (at + 8) 8;
+      needed = be s (at + 16) 8;
+      size = be s (at + 24) 4;
+    }
+
+-- a table of prices: rows of so many 32-bit prices each
+unfoldable pub pricesAt : List ℕ → ℕ → ℕ → ℕ → List (List ℕ)
+pricesAt s at rows columns = each rows (λ i. each columns (λ p. be s (at + 4 * (i * columns + p)) 4))
+
+-- the night that the bytes hold, where the header is h
+unfoldable pub nightIn : List ℕ → Header → Night
+nightIn s h =
+    record {
+      header = h;
+      relations = each (h .relations) (λ i. relationAt s (headerLength (h .version) + relationLength (h .version) * i));
+      grants = each (h .grants) (λ i. grantAt s (grantsFrom h + grantLength (h .version) * i));
+      nodes = each (h .nodes) (λ i. nodeAt s (nodesFrom h + nodeLength (h .version) * i));
+      stepPrices = pricesAt s (stepPricesFrom h) (h .nodes) (h .subjects);
+      linkPrices = pricesAt s (linkPricesFrom h) (h .subjects) (h .subjects);
+    }
+
+-- the night of a file
+abbrev pub nightOf : List ℕ → Night
+nightOf s = nightIn s (headerOf s)

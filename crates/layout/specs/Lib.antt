@@ -1,0 +1,2 @@
+-- The plan file's layout, and the night that its bytes hold.
+pub mod Layout

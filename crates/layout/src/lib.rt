@@ -1,0 +1,5 @@
+// Where each value of a plan file stands, and how it is read out of the lent bytes.
+mod bytes;
+pub mod places;
+pub mod values;
+pub mod views;

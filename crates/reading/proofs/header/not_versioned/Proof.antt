@@ -1,0 +1,21 @@
+-- The tests are the definition's, in its order.
+use borrow.Author.Needs.{needs}
+use Rattle.laws.specs.Choose.{anyOf}
+use Rattle.laws.proofs.Cases.{cases}
+use Rattle.reading.specs.Trials.{notVersioned}
+use Rattle.reading.proofs.header.not_versioned.Statement.{statement}
+use Rattle.reading.proofs.header.not_versioned.Tie as tie
+
+returns : tie.Need-returns
+unfolding notVersioned anyOf
+returns c = search cases depth 20
+
+header-requires : tie.Need-header-requires
+header-requires c κs = search needs
+
+returns-2 : tie.Need-returns-2
+unfolding notVersioned anyOf
+returns-2 c = rw (← c .before .header .ensures) (search cases depth 20)
+
+pub not-versioned-spec : {M : Type 1} → statement M
+not-versioned-spec = tie.close (tie.spec returns header-requires returns-2)

@@ -1,0 +1,46 @@
+-- What each case of an answer says: document 01's number and place, or the values.
+use mathlib.Core.List.{List, []}
+use Prim.Native.Nat.{ℕ, _-_}
+use mathlib.Core.Path.{_≡_}
+use mathlib.Core.Logic.{_↔_}
+use lib.ListN.{take, drop}
+use Rattle.laws.specs.Trials.{Says, answers, refuses, verdict}
+use Rattle.night.specs.declared.Header.{Header}
+use Rattle.night.specs.Promised.{Promised}
+use Rattle.layout.specs.Layout.{grantsFrom, nodesFrom, headerOf, nightOf}
+use Rattle.reading.specs.Trials.{trials}
+use Rattle.reading.specs.declared.Checked.{Checked}
+use Rattle.reading.specs.declared.Checked.the-variants.{Accepted, Refused}
+use Rattle.reading.specs.declared.Tried.{Tried}
+use Rattle.reading.specs.declared.Tried.the-variants.{Passed, Failed}
+
+-- `check`: accepted with the header's values, or refused with number and place
+abbrev pub saidOf : Checked → Says Header
+saidOf (Accepted h) = answers h
+saidOf (Refused n p) = refuses n p
+
+-- a part of the trials: all passed, or one failed with number and place
+abbrev pub triedOf : Tried → Says (Unit {0})
+triedOf Passed = answers tt
+triedOf (Failed n p) = refuses n p
+
+-- the verdict of a file's trials
+unfoldable pub checkOf : List ℕ → Says Header
+checkOf s = verdict (trials s) (headerOf s)
+
+-- the part of the file that holds the grant records: empty with a refusal
+abbrev pub grantsPart : Says Header → List ℕ → List ℕ
+grantsPart (answers h) s = take (nodesFrom h - grantsFrom h) (drop (grantsFrom h) s)
+grantsPart (refuses n p) s = []
+
+-- every accepted list of bytes has the promised facts
+abbrev pub AcceptedPromises : Type 0
+AcceptedPromises = (s : List ℕ) (h : Header) → checkOf s ≡ answers h → Promised (nightOf s)
+
+-- the part of grant records is empty exactly when the file is refused
+abbrev pub EmptyWhenRefused : Type 0
+EmptyWhenRefused = (s : List ℕ) → (grantsPart (checkOf s) s ≡ []) ↔ ((n : ℕ) × (p : ℕ) × (checkOf s ≡ refuses n p))
+
+-- any two answers of `check` that say the same are the same
+abbrev pub SaidOnce : Type 0
+SaidOnce = (a b : Checked) → saidOf a ≡ saidOf b → a ≡ b

@@ -1,0 +1,62 @@
+// Reading and checking a plan file: refusals 1 to 11 of document 01, in its order, on any bytes.
+mod header;
+mod nodes;
+mod prices;
+mod records;
+mod sections;
+
+use layout::places;
+use layout::values;
+use night::Header;
+ghost use mathlib.Core.Path.{_≡_};
+ghost use Rattle.reading.specs.Answers.{saidOf, checkOf, grantsPart};
+
+// What is said of a file: the header's values where it is accepted, or the first refusal.
+pub enum Checked {
+    Accepted(Header),
+    Refused { number: u8, place: u32 },
+}
+
+// What came of a row of trials: all passed, or the first that failed.
+enum Tried {
+    Passed,
+    Failed { number: u8, place: u32 },
+}
+
+// The sections of the file whose records are tried one by one.
+enum Section {
+    Relations,
+    Grants,
+    Owners,
+    Nodes,
+    Parents,
+    Prices,
+}
+
+// The verdict on a file, for any bytes.
+pub fn check(file: &[u8]) -> Checked
+    ensures { λ r. ⌜ saidOf r ≡ checkOf (now (file .entry)) ⌝ }
+{
+    let head = header::header_tried(file);
+    if let Tried::Failed { number, place } = head {
+        return Checked::Refused { number, place };
+    }
+    let h = values::header(file);
+    let body = sections::night_tried(file, h);
+    if let Tried::Failed { number, place } = body {
+        return Checked::Refused { number, place };
+    }
+    Checked::Accepted(h)
+}
+
+// The part of the file that holds the grant records: empty with a refusal.
+pub fn grant_records(file: &[u8]) -> &[u8]
+    ensures { λ r. ⌜ now r ≡ grantsPart (checkOf (now (file .entry))) (now (file .entry)) ⌝ }
+{
+    let Checked::Accepted(h) = check(file) else {
+        return &file[..0];
+    };
+    let from = places::grants_from(h);
+    let to = places::nodes_from(h);
+    &file[from..to]
+}

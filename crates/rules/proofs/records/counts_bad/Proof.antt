@@ -1,0 +1,61 @@
+-- The tests are the definition's, in its order.
+use Rattle.laws.specs.Choose.{anyOf}
+use Rattle.laws.proofs.Cases.{cases}
+use Rattle.rules.specs.Rules.{countsBad}
+use Rattle.rules.proofs.records.counts_bad.Statement.{statement}
+use Rattle.rules.proofs.records.counts_bad.Tie as tie
+
+returns : tie.Need-returns
+unfolding countsBad anyOf
+returns c = search cases depth 20
+
+returns-2 : tie.Need-returns-2
+unfolding countsBad anyOf
+returns-2 c = search cases depth 20
+
+returns-3 : tie.Need-returns-3
+unfolding countsBad anyOf
+returns-3 c = search cases depth 20
+
+returns-4 : tie.Need-returns-4
+unfolding countsBad anyOf
+returns-4 c = search cases depth 20
+
+returns-5 : tie.Need-returns-5
+unfolding countsBad anyOf
+returns-5 c = search cases depth 20
+
+returns-6 : tie.Need-returns-6
+unfolding countsBad anyOf
+returns-6 c = search cases depth 20
+
+returns-7 : tie.Need-returns-7
+unfolding countsBad anyOf
+returns-7 c = search cases depth 20
+
+returns-8 : tie.Need-returns-8
+unfolding countsBad anyOf
+returns-8 c = search cases depth 20
+
+returns-9 : tie.Need-returns-9
+unfolding countsBad anyOf
+returns-9 c = search cases depth 20
+
+returns-10 : tie.Need-returns-10
+unfolding countsBad anyOf
+returns-10 c = search cases depth 20
+
+pub counts-bad-spec : {M : Type 1} → statement M
+counts-bad-spec =
+    tie.close
+    (tie.spec
+    returns
+    returns-2
+    returns-3
+    returns-4
+    returns-5
+    returns-6
+    returns-7
+    returns-8
+    returns-9
+    returns-10)

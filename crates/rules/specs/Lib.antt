@@ -1,0 +1,2 @@
+-- When a record of the file breaks a rule.
+pub mod Rules

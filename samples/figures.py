@@ -1,0 +1,175 @@
+#!/usr/bin/env python3
+"""Writes the figures that the program facts runs: its input, and what document 01 says of each.
+
+Each figure is the sample night, cut or filled with zeros to a length, with some bytes changed; or the same of a night with all kinds of node; or a
+leaf alone; or a file of the greatest length. What stands beside it is read off document 01 by hand, never computed. Run from the repository's root.
+"""
+import struct
+
+from night import all_kinds, alone, longest, sample
+
+# name, length, bytes changed, what document 01 says
+FIGURES = [
+    # the mark, the version, the header, the counts, the length
+    ("the sample night", 741, {}, "accepted"),
+    ("1 other mark", 741, {0: 66}, "refused 1 place 0"),
+    ("1 mark's last letter", 741, {2: 81}, "refused 1 place 0"),
+    ("1 two bytes", 2, {}, "refused 1 place 0"),
+    ("1 no bytes", 0, {}, "refused 1 place 0"),
+    ("2 version 2", 741, {4: 2}, "refused 2 place 0"),
+    ("2 version 257", 741, {3: 1}, "refused 2 place 0"),
+    ("2 four bytes", 4, {}, "refused 2 place 0"),
+    ("3 fourteen bytes", 14, {}, "refused 3 place 0"),
+    ("3 fourteen bytes and no subject", 14, {5: 0}, "refused 3 place 0"),
+    ("3 740 bytes", 740, {}, "refused 3 place 0"),
+    ("3 742 bytes", 742, {}, "refused 3 place 0"),
+    ("3 five subjects", 741, {5: 5}, "refused 3 place 0"),
+    ("4 no subject", 741, {5: 0}, "refused 4 place 0"),
+    ("4 seventeen subjects", 741, {5: 17}, "refused 4 place 0"),
+    ("4 no relation, fifteen bytes", 15, {6: 0}, "refused 4 place 0"),
+    ("4 seventeen relations", 741, {6: 17}, "refused 4 place 0"),
+    ("4 no attribute", 741, {7: 0}, "refused 4 place 0"),
+    ("4 65 attributes", 741, {7: 65}, "refused 4 place 0"),
+    ("4 no node", 741, {8: 0}, "refused 4 place 0"),
+    ("4 65 nodes", 741, {8: 65}, "refused 4 place 0"),
+    ("4 273 grants", 741, {9: 1, 10: 17}, "refused 4 place 0"),
+    ("3 272 grants", 741, {9: 1, 10: 16}, "refused 3 place 0"),
+    # relations, grants, owners
+    ("5 owner 6 of 6", 741, {15: 6}, "refused 5 place 0"),
+    ("5 empty set", 741, {23: 0}, "refused 5 place 0"),
+    ("5 attribute 6 of 6", 741, {32: 112}, "refused 5 place 1"),
+    ("5 attribute taken before", 741, {32: 56}, "refused 5 place 1"),
+    ("5 attribute left over", 741, {32: 32}, "refused 5 place 2"),
+    ("6 relation 2 of 2", 741, {33: 2}, "refused 6 place 0"),
+    ("6 subject 6 of 6", 741, {52: 6}, "refused 6 place 1"),
+    ("6 sets that meet", 741, {68: 15}, "refused 6 place 1"),
+    ("6 clear outside the relation", 741, {168: 17}, "refused 6 place 7"),
+    ("6 sealed outside the relation", 741, {176: 33}, "refused 6 place 7"),
+    ("6 pair seen before", 741, {52: 0}, "refused 6 place 1"),
+    ("6 any seen before", 741, {52: 255}, "refused 6 place 6"),
+    ("6 before 7", 741, {42: 7, 284: 33}, "refused 6 place 13"),
+    ("7 owner sees less in clear", 741, {42: 7}, "refused 7 place 0"),
+    ("7 owner sees sealed what any has in clear", 741, {42: 7, 50: 8}, "refused 7 place 0"),
+    ("7 second owner", 741, {186: 16}, "refused 7 place 1"),
+    ("7 own grant not all clear though any is", 741, {34: 255, 142: 0}, "refused 7 place 0"),
+    # nodes
+    ("8 kind 9", 741, {285: 9}, "refused 8 place 0"),
+    ("8 child not lower", 741, {314: 1}, "refused 8 place 1"),
+    ("8 child missing", 741, {314: 255}, "refused 8 place 1"),
+    ("8 children the same", 741, {371: 1}, "refused 8 place 3"),
+    ("8 child taken", 741, {398: 1}, "refused 8 place 4"),
+    ("8 unused left", 741, {286: 0}, "refused 8 place 0"),
+    ("8 unused right", 741, {315: 0}, "refused 8 place 1"),
+    ("8 unused x", 741, {369: 4, 373: 255}, "refused 8 place 3"),
+    ("8 unused y", 741, {317: 0}, "refused 8 place 1"),
+    ("8 unused set", 741, {384: 1}, "refused 8 place 3"),
+    ("8 spare byte", 741, {348: 1}, "refused 8 place 2"),
+    ("8 size 1,000,001", 741, {450: 15, 451: 66, 452: 65}, "refused 8 place 5"),
+    ("8 before 9 of the same node", 741, {316: 6, 317: 0}, "refused 8 place 1"),
+    ("9 before 8 of the next node", 741, {316: 6, 341: 1}, "refused 9 place 1"),
+    ("8 after all nodes, no parent", 741, {369: 1, 371: 255, 372: 255, 373: 255, 384: 12, 397: 7, 400: 255, 428: 3, 448: 8}, "refused 8 place 2"),
+    ("10 before the node without parent", 741, {369: 1, 371: 255, 372: 255, 373: 255, 384: 12, 397: 7, 400: 255, 428: 3, 448: 9}, "refused 10 place 5"),
+    ("9 relation 2 of 2", 741, {288: 2}, "refused 9 place 0"),
+    ("9 relation taken by an earlier leaf", 741, {344: 0, 356: 1}, "refused 9 place 2"),
+    ("9 leaf's set empty", 741, {300: 0}, "refused 9 place 0"),
+    ("9 leaf's set outside the relation", 741, {300: 29}, "refused 9 place 0"),
+    ("9 x not visible", 741, {316: 1}, "refused 9 place 1"),
+    ("9 x 255", 741, {316: 255}, "refused 9 place 1"),
+    ("9 y on the wrong side", 741, {373: 2}, "refused 9 place 3"),
+    ("9 set not visible", 741, {412: 2}, "refused 9 place 4"),
+    ("9 aggregate inside the set", 741, {400: 3}, "refused 9 place 4"),
+    ("9 user function outside its set", 741, {397: 8}, "refused 9 place 4"),
+    ("9 empty set of group and count", 741, {397: 7, 400: 255, 412: 0}, "refused 9 place 4"),
+    ("10 needed at a leaf", 741, {308: 1}, "refused 10 place 0"),
+    ("10 needed outside what is read", 741, {448: 40}, "refused 10 place 5"),
+    ("10 half of a join", 741, {392: 1}, "refused 10 place 3"),
+    ("a whole join needed", 741, {392: 17}, "accepted"),
+    ("aggregate of an empty set, nothing needed", 741, {412: 0, 448: 0}, "accepted"),
+    # prices: one running index, step prices first
+    ("11 leaf's price", 741, {456: 1}, "refused 11 place 0"),
+    ("11 leaf's last price", 741, {524: 1}, "refused 11 place 17"),
+    ("11 step price 1,000,001", 741, {478: 15, 479: 66, 480: 65}, "refused 11 place 6"),
+    ("step price 1,000,000", 741, {478: 15, 479: 66, 480: 64}, "accepted"),
+    ("11 last step price", 741, {594: 15, 595: 66, 596: 65}, "refused 11 place 35"),
+    ("11 link to itself", 741, {600: 1}, "refused 11 place 36"),
+    ("11 link price 1,001", 741, {603: 3, 604: 233}, "refused 11 place 37"),
+    ("link price 1,000", 741, {603: 3, 604: 232}, "accepted"),
+    ("11 last link", 741, {740: 1}, "refused 11 place 71"),
+]
+
+
+def in_node(i, field):
+    """Where a field of node i stands in the night of all kinds; of a set, its lowest byte."""
+    fields = {"kind": 0, "left": 1, "right": 2, "x": 3, "y": 4, "spare": 5, "set": 15, "needed": 23, "size": 24, "high": 8}
+    return 15 + 3 * 9 + 4 * 18 + 28 * i + fields[field]
+
+
+def changes(*rows):
+    return {in_node(i, field): value for i, field, value in rows}
+
+
+# name, changes to the night of all kinds, what document 01 says
+KINDS = [
+    ("all nine kinds", changes(), "accepted"),
+    ("8 leaf's size", changes((0, "size", 1)), "refused 8 place 0"),
+    ("8 first spare byte", changes((0, "spare", 1)), "refused 8 place 0"),
+    ("8 unused y of a leaf", changes((0, "y", 0)), "refused 8 place 0"),
+    ("8 high byte of an unused set", changes((2, "high", 1)), "refused 8 place 2"),
+    ("8 right child not lower", changes((4, "right", 4)), "refused 8 place 4"),
+    ("8 right child taken", changes((6, "right", 3)), "refused 8 place 6"),
+    ("9 leaf's relation 255", changes((0, "x", 255)), "refused 9 place 0"),
+    ("9 project of no attribute", changes((1, "set", 0)), "refused 9 place 1"),
+    ("10 needed at project", changes((1, "needed", 1)), "refused 10 place 1"),
+    ("kind 3 with x = y", changes((2, "y", 0)), "accepted"),
+    ("9 x of kind 3 projected away", changes((2, "x", 2)), "refused 9 place 2"),
+    ("9 y of kind 3 projected away", changes((2, "y", 2)), "refused 9 place 2"),
+    ("10 half of kind 3", changes((2, "needed", 1)), "refused 10 place 2"),
+    ("10 needed at product", changes((4, "needed", 1)), "refused 10 place 4"),
+    ("9 x of join on the right", changes((6, "x", 5)), "refused 9 place 6"),
+    ("10 half of kind 8", changes((7, "needed", 0b10000)), "refused 10 place 7"),
+    ("all of kind 8 needed", changes((7, "needed", 0b1010000)), "accepted"),
+    ("9 what kind 8 took away", changes((8, "x", 4)), "refused 9 place 8"),
+    ("what kind 8 left", changes((8, "x", 6)), "accepted"),
+    ("group and aggregate, all needed", changes((9, "needed", 0b1000011)), "accepted"),
+    ("10 outside group and aggregate", changes((9, "needed", 0b10000000)), "refused 10 place 9"),
+    ("some of group and count needed", changes((10, "needed", 1)), "accepted"),
+    ("10 outside group and count", changes((10, "needed", 2)), "refused 10 place 10"),
+    (
+        "8 two nodes without parent",
+        changes(
+            *[(4, "kind", 2), (4, "right", 255), (4, "x", 0), (6, "kind", 2), (6, "right", 255), (6, "x", 0), (6, "y", 255)],
+            *[(7, "set", 3), (7, "x", 0), (8, "x", 0), (9, "set", 0), (9, "x", 0), (10, "set", 1)],
+        ),
+        "refused 8 place 3",
+    ),
+]
+# a leaf alone, and the same without a grant; the longest file: every count at its limit, all 64 bits of the sets in use
+OTHERS = [
+    ("a leaf alone", alone([(0, 0, 1, 0)]), "accepted"),
+    ("7 no grant", alone([]), "refused 7 place 0"),
+    ("the longest file, 11,967 bytes", longest(), "accepted"),
+    ("3 11,966 bytes", longest()[:-1], "refused 3 place 0"),
+    ("3 11,968 bytes", longest() + b"\0", "refused 3 place 0"),
+]
+
+
+def changed(data, length, edits):
+    file = bytearray(data[:length].ljust(length, b"\0"))
+    for at, value in edits.items():
+        if at < length:
+            file[at] = value
+    return bytes(file)
+
+
+def main():
+    cases = [(name, changed(sample(), length, edits), said) for name, length, edits, said in FIGURES]
+    cases += [(name, changed(all_kinds(), len(all_kinds()), edits), said) for name, edits, said in KINDS]
+    with open("crates/facts/stdin", "wb") as given, open("crates/facts/stdout", "w", encoding="ascii") as expected:
+        for name, file, said in cases + OTHERS:
+            given.write(struct.pack(">B", len(name)) + name.encode() + struct.pack(">H", len(file)) + file)
+            grants = 18 * int.from_bytes(file[9:11], "big") if said == "accepted" else 0
+            expected.write("%s: %s, %d bytes of grants\n" % (name, said, grants))
+
+
+if __name__ == "__main__":
+    main()
