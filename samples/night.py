@@ -1,5 +1,6 @@
 #!/usr/bin/env python3
-"""Writes document 01's sample night as samples/night.axp and as the list of bytes in the specs.
+"""Writes document 01's sample night as samples/night.axp, and in the specs as a list of bytes and as values.
+The files of the specs are laid out by `rt fmt` afterwards.
 
 Run from the repository's root. The grants are those of figure 4 of source document 004.
 """
@@ -107,6 +108,29 @@ def as_list(data):
     return "\n".join("    " + " ".join("%d ∷" % byte for byte in row) for row in rows) + " []"
 
 
+def value(names, fields):
+    return "record { " + "; ".join("%s = %d" % pair for pair in zip(names.split(), fields)) + " }"
+
+
+def decoded():
+    """The sample night's values as a record of the specs."""
+    s = len(SUBJECTS)
+    relations = [value("owner set", (SUBJECTS.index(owner), bits(names))) for owner, names, _ in RELATIONS]
+    granted = [value("relation subject clear sealed", grant) for grant in grants()]
+    fields = "kind left right x y spare1 spare2 spare3 set needed size"
+    nodes = [value(fields, (k, l, r, number(x), number(y), 0, 0, 0, bits(held), bits(needed), size)) for k, l, r, x, y, held, needed, size in NODES]
+    steps = [[0] * s if node[0] == LEAF else STEP_PRICES for node in NODES]
+    links = [[0 if to == sender else LINK_PRICE for to in range(s)] for sender in range(s)]
+    lists = [[" ∷ ".join("%d" % price for price in row) + " ∷ []" for row in table] for table in (steps, links)]
+    counts = (1, s, len(RELATIONS), len(ATTRIBUTES), len(NODES), len(granted), STEPS_ALLOWED)
+    parts = [("header", value("version subjects relations attributes nodes grants steps", counts))]
+    for name, items in [("relations", relations), ("grants", granted), ("nodes", nodes)]:
+        parts.append((name, " ∷ ".join(items) + " ∷ []"))
+    for name, items in [("stepPrices", lists[0]), ("linkPrices", lists[1])]:
+        parts.append((name, " ∷ ".join("(%s)" % item for item in items) + " ∷ []"))
+    return "record {\n" + "".join("      %s = %s;\n" % part for part in parts) + "    }"
+
+
 def main():
     data = sample()
     with open("samples/night.axp", "wb") as out:
@@ -119,6 +143,16 @@ def main():
             "-- the file samples/night.axp\n"
             "unfoldable pub sample : List ℕ\n"
             "sample =\n" + as_list(data) + "\n"
+        )
+
+    with open("crates/demands/specs/SampleNight.antt", "w", encoding="utf-8") as out:
+        out.write(
+            "-- Document 01's sample night as values, written by samples/night.py.\n"
+            "use mathlib.Core.List.{[], _∷_}\n"
+            "use Rattle.night.specs.Night.{Night}\n\n"
+            "-- what samples/night.axp holds\n"
+            "unfoldable pub sampleNight : Night\n"
+            "sampleNight =\n    " + decoded() + "\n"
         )
 
 

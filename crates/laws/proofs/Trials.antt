@@ -133,3 +133,10 @@ fro (t ∷ ts) a n p w = go (w .index) refl (fro ts a n p)
 
 pub refuses-exactly : RefusesExactly
 refuses-exactly A ts a n p = (to ts a n p, fro ts a n p)
+
+-- the same row with another answer refuses alike and accepts alike
+pub refused-alike : {A B : Type 0} (ts : List Trial) (a : A) (b : B) (n p : ℕ) → verdict ts a ≡ refuses n p → verdict ts b ≡ refuses n p
+refused-alike {A} {B} ts a b n p e = refuses-exactly B ts b n p .1 (refuses-exactly A ts a n p .0 e)
+
+pub accepted-alike : {A B : Type 0} (ts : List Trial) (a c : A) (b : B) → verdict ts a ≡ answers c → verdict ts b ≡ answers b
+accepted-alike ts a c b e = passes-accepts ts b (passed ts a c e .0)

@@ -1,3 +1,4 @@
 -- Laws on nights.
 pub mod Children
 pub mod Views
+pub mod Visible

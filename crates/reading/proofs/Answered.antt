@@ -1,13 +1,13 @@
 -- What the answers of `check` and `grant_records` leave no choice in.
-use Prim.Native.Nat.{ℕ, _+_, _-_, _*_, _≤_, min}
+use Prim.Native.Nat.{ℕ, _-_, _≤_, min}
 use mathlib.Core.Path.{_≡_, refl, sym, ap, _∙_}
 use mathlib.Core.List.{List, []}
 use native.Mathlib.Omega.{arith}
 use lib.ListN.{length, take, drop, length-take, length-drop}
 use Rattle.laws.specs.Trials.{Says, answers, refuses}
 use Rattle.night.specs.declared.Header.{Header}
-use Rattle.layout.specs.Layout.{grantsFrom, nodesFrom, headerOf, nightIn}
-use Rattle.reading.specs.Answers.{saidOf, checkOf, grantsPart, EmptyWhenRefused, SaidOnce}
+use Rattle.layout.specs.Layout.{grantsFrom, nodesFrom, nightIn}
+use Rattle.reading.specs.Answers.{checkOf, grantsPart, EmptyWhenRefused, SaidOnce}
 use Rattle.reading.specs.declared.Checked.the-variants.{Accepted, Refused}
 use Rattle.reading.proofs.Opened.{accepted-header, accepted-length, nodes-within}
 use Rattle.reading.proofs.Promises.{accepted-promises}

@@ -7,7 +7,7 @@ use lib.ListN.{length}
 use borrow.Author.Tests.{ltb-false, eqb-true, not-false}
 use Rattle.laws.specs.Trials.{answers, refuses, verdict}
 use Rattle.laws.proofs.Cases.{none-of}
-use Rattle.laws.proofs.Trials.{passed, passes-accepts, passed-then, refused-then, refuses-exactly}
+use Rattle.laws.proofs.Trials.{passed, passed-then, refused-then, refused-alike, accepted-alike}
 use Rattle.night.specs.declared.Header.{Header}
 use Rattle.layout.specs.Layout.{grantsFrom, nodesFrom, stepPricesFrom, linkPricesFrom, fileLength, headerOf, nightIn}
 use Rattle.rules.specs.Rules.{countsBad}
@@ -24,13 +24,13 @@ module _ (s : List ℕ) where
     unfolding checkOf trials
     body-refused n p e =
         let body = recordTrials (nightIn s h) ++ treeTrials (nightIn s h) in
-        rw (← same) (passed-then (headerTrials s) body tt h head ∙ refuses-exactly Header body h n p .1 (refuses-exactly (Unit {0}) body tt n p .0 e))
+        rw (← same) (passed-then (headerTrials s) body tt h head ∙ refused-alike body tt h n p e)
 
     pub body-accepted : verdict (recordTrials (nightIn s h) ++ treeTrials (nightIn s h)) (tt {0}) ≡ answers tt → checkOf s ≡ answers h
     unfolding checkOf trials
     body-accepted e =
         let body = recordTrials (nightIn s h) ++ treeTrials (nightIn s h) in
-        rw (← same) (passed-then (headerTrials s) body tt h head ∙ passes-accepts body h (passed body tt tt e .0))
+        rw (← same) (passed-then (headerTrials s) body tt h head ∙ accepted-alike body tt tt h e)
 
     pub nodes-few : h .nodes ≤ 64
     unfolding headerTrials countsBad

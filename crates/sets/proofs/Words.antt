@@ -12,7 +12,7 @@ use lib.Bits.{or-lt, and-le-l}
 use lib.Count.{trailingZeros, under, trailing-of-zero, ones-step, ones-le}
 use borrow.Author.Tests.{ne-eqb}
 use Rattle.sets.specs.Sets.{bit, In, member, union, meet, minus, below, single, lowest, size, countBelow, unions}
-use Rattle.sets.proofs.Members.{bit-zero, bit-suc, bit-none, bit-beyond, in-none}
+use Rattle.sets.proofs.Members.{same-members, in-meet, bit-zero, bit-suc, bit-none, bit-beyond, in-none}
 
 -- the digit that a shift brings to the end, and none past the word
 pub member-shift : (S k : ℕ) → eqb (S / 2 ^ k % 2) 1 ≡ member S k
@@ -166,3 +166,11 @@ unions-none f = refl
 pub unions-more : (f : ℕ → ℕ) (n : ℕ) → unions f (n + 1) ≡ union (unions f n) (f n)
 unfolding unions
 unions-more f n = rw add-one refl
+
+-- a set whose members are below w fits a word of w bits
+pub members-lt : (w S : ℕ) → ((k : ℕ) → In k S → k < w) → S < 2 ^ w
+members-lt w S h =
+    let same : meet (below w w) S ≡ S =
+    same-members (meet (below w w) S) S (λ k q. in-meet (below w w) S k .0 q .1) (λ k q. in-meet (below w w) S k .1 (in-below w w k .1 (h k q, h k q), q))
+    in
+    rw same at (meet-lt w (below w w) S (below-lt w w))

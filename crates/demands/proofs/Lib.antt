@@ -1,0 +1,3 @@
+-- The proofs of the statements over bytes.
+pub mod Marked
+pub mod Leaves

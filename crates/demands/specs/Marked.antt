@@ -1,0 +1,60 @@
+-- The facts that document 01 marks as proved, in one table.
+use Prim.Native.Nat.{ℕ}
+use mathlib.Core.Path.{_≡_}
+use mathlib.Core.Bool.{Bool, true, false, not}
+use mathlib.Core.List.{List, [], _∷_}
+use lib.Dec.{eqb}
+use lib.ListN.{getD}
+use Rattle.laws.specs.First.{somewhere}
+use Rattle.sets.specs.Sets.{member}
+use Rattle.night.specs.declared.Node.{Node}
+use Rattle.night.specs.Night.{Night}
+use Rattle.night.specs.Views.{anySubject, viewOf, clearOf, sealedOf}
+use Rattle.layout.specs.Layout.{nightOf}
+use Rattle.model.specs.declared.Table.{Table}
+use Rattle.model.specs.Ties.{untied, tie}
+use Rattle.model.specs.Tables.{blank, leafTable, stepTable}
+use Rattle.model.specs.Candidates.{clearOffends, sealedOffends, tiedOffends, candidateSet}
+use Rattle.reading.specs.Sample.{sample}
+use Rattle.demands.specs.SampleNight.{sampleNight}
+
+-- the profile of the sample: clear P, sealed B S C, tied {S, C}, where S B D T C P are 0 to 5
+abbrev pub profile : Table
+profile = record { clear = 32; sealed = 19; tested = 0; hidden = 0; tied = tie untied 17 }
+
+-- which of the three conditions hold for a subject of the sample night
+abbrev pub conditions : ℕ → List Bool
+conditions p =
+    eqb (clearOffends profile (clearOf sampleNight p) (sealedOf sampleNight p)) 0
+    ∷ eqb (sealedOffends profile (clearOf sampleNight p) (sealedOf sampleNight p)) 0
+    ∷ not (somewhere (tiedOffends profile (clearOf sampleNight p) (sealedOf sampleNight p)) 64)
+    ∷ []
+
+-- a user function over attribute 5 alone
+abbrev pub function : Node
+function = record { kind = 8; left = 0; right = 255; x = 5; y = 255; spare1 = 0; spare2 = 0; spare3 = 0; set = 32; needed = 0; size = 0 }
+
+-- its operand
+abbrev pub operand : Table
+operand = record { clear = 32; sealed = 0; tested = 0; hidden = 0; tied = untied }
+
+-- subjects H I U X Y Z are 0 to 5
+pub record Marked : Type 0 where
+  -- the values of the file's bytes
+  pub decoded : nightOf sample ≡ sampleNight
+  -- Y may have the profile; of H, U, I just the first, the second, the third condition fails
+  pub y-may : conditions 4 ≡ true ∷ true ∷ true ∷ []
+  pub h-fails-first : conditions 0 ≡ false ∷ true ∷ true ∷ []
+  pub u-fails-second : conditions 2 ≡ true ∷ false ∷ true ∷ []
+  pub i-fails-third : conditions 1 ≡ true ∷ true ∷ false ∷ []
+  -- I sees D sealed though any has it clear
+  pub i-sees-d-sealed : member (sealedOf sampleNight 1) 2 ≡ true
+  pub i-sees-d-not-clear : member (clearOf sampleNight 1) 2 ≡ false
+  pub any-has-d-clear : member (viewOf sampleNight anySubject 0 .clear) 2 ≡ true
+  -- candidates: node 1 all six; 3 and 4 all but I; 5 U and Y
+  pub node-1 : candidateSet sampleNight 1 ≡ 63
+  pub node-3 : candidateSet sampleNight 3 ≡ 61
+  pub node-4 : candidateSet sampleNight 4 ≡ 61
+  pub node-5 : candidateSet sampleNight 5 ≡ 20
+  -- a user function over {a} ties {a}
+  pub function-ties : getD (stepTable function operand blank .tied) 5 0 ≡ 32

@@ -1,0 +1,1 @@
+// No code: the statements over bytes, and their proofs.

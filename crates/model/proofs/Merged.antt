@@ -1,0 +1,57 @@
+-- The tied sets of two operands together: those of the second are tied, one by one, into those of the first.
+use Prim.Native.Nat.{ℕ, zero, suc, _^_, _<_}
+use mathlib.Core.Path.{_≡_, refl, ap, _∙_}
+use mathlib.Core.List.{List}
+use mathlib.Core.Logic.{_⊎_, inl, inr, ⊎-elim}
+use native.Mathlib.Nat.{eq-or-lt-of-le, le-of-suc-le-suc}
+use native.Mathlib.Omega.{arith}
+use lib.ListN.{getD}
+use Rattle.sets.specs.Sets.{In, meet, below}
+use Rattle.sets.proofs.Members.{same-members, in-meet}
+use Rattle.sets.proofs.Words.{in-below, below-lt, meet-lt}
+use Rattle.model.specs.Ties.{merged, Chain, one, Classes}
+use Rattle.model.proofs.Chains.{chain-join, chain-back, chain-through, chain-map, chain-low, chain-classes, same-classes, tie-classes}
+
+-- a set with members below 64 alone is a word of 64 bits
+word-of : (a : ℕ) → ((k : ℕ) → In k a → k < 64) → a < 2 ^ 64
+word-of a f = rw e (meet-lt 64 (below 64 64) a (below-lt 64 64))
+  where
+    e : a ≡ meet (below 64 64) a
+    e = same-members a (meet (below 64 64) a) (λ k h. in-meet (below 64 64) a k .1 (in-below 64 64 k .1 (f k h, f k h), h)) (λ k h. in-meet (below 64 64) a k .0 h .1)
+
+-- tied sets are words of 64 bits
+pub tied-word : (T : ℕ → Type 0) (t : List ℕ) → Classes T t → (i : ℕ) → getD t i 0 < 2 ^ 64
+tied-word T t C i = word-of (getD t i 0) (λ k h. chain-low (C .small) (chain-back (C .linked i k h)))
+
+-- tied in the first, or one of the second's tied sets below n
+abbrev So : (ℕ → Type 0) → List ℕ → ℕ → ℕ → Type 0
+So T u n m = T m ⊎ ((k : ℕ) × (k < n) × (m ≡ getD u k 0))
+
+module _ (T S : ℕ → Type 0) (t u : List ℕ) (C : Classes T t) (D : Classes S u) where
+  merged-below : (n : ℕ) → Classes (So T u n) (merged t u n)
+  unfolding merged
+  merged-below zero = same-classes T (So T u 0) t (λ m. inl) (λ m. ⊎-elim (λ h. h) (λ r. absurd (omega (arith, r .1)))) C
+  merged-below (suc n) =
+      same-classes (λ m. (m ≡ getD u n 0) ⊎ So T u n m) (So T u (suc n)) (merged t u (suc n))
+      (λ m. ⊎-elim (λ e. inr (n, omega arith, e)) (⊎-elim inl (λ r. inr (r .0, omega (arith, r .1), r .2))))
+      (λ m.
+      ⊎-elim (λ h. inr (inl h)) (λ r. ⊎-elim (λ q. inl (r .2 ∙ ap (λ (k : ℕ). getD u k 0) q)) (λ l. inr (inr (r .0, l, r .2))) (eq-or-lt-of-le (le-of-suc-le-suc (r .1)))))
+      (tie-classes (So T u n) (merged t u n) (getD u n 0) (merged-below n) (tied-word S u D n))
+
+  -- the chains of the second's tied sets are those of the sets that were tied
+  out : (m : ℕ) → So T u 64 m → (x y : ℕ) → In x m → In y m → Chain (λ m. T m ⊎ S m) x y
+  out m (inl h) x y hx hy = one (inl h) hx hy
+  out m (inr r) x y hx hy = chain-join (chain-back (from x (rw (r .2) at hx))) (from y (rw (r .2) at hy))
+    where
+      from : (z : ℕ) → In z (getD u (r .0) 0) → Chain (λ m. T m ⊎ S m) (r .0) z
+      from z h = chain-map (λ m. inr) (D .linked (r .0) z h)
+
+  back : (m : ℕ) → T m ⊎ S m → (x y : ℕ) → In x m → In y m → Chain (So T u 64) x y
+  back m (inl h) x y hx hy = one (inl h) hx hy
+  back m (inr h) x y hx hy = one (inr (x, chain-low (D .small) (one h hx hx), refl)) (D .held x x (one h hx hx)) (D .held x y (one h hx hy))
+
+-- together the tied sets have the classes of what was tied in either
+pub merged-classes : (T S : ℕ → Type 0) (t u : List ℕ) → Classes T t → Classes S u → Classes (λ m. T m ⊎ S m) (merged t u 64)
+merged-classes T S t u C D =
+    chain-classes (So T u 64) (λ m. T m ⊎ S m) (merged t u 64) (λ m. ⊎-elim (C .small m) (D .small m))
+    (λ i j. chain-through (out T S t u C D)) (λ i j. chain-through (back T S t u C D)) (merged-below T S t u C D 64)

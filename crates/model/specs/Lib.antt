@@ -1,0 +1,4 @@
+-- Tables and candidates.
+pub mod Ties
+pub mod Tables
+pub mod Candidates

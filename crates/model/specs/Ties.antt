@@ -1,0 +1,36 @@
+-- Tied sets: for each attribute the whole tied set that it stands in, empty where it is not tied.
+use Prim.Native.Nat.{ℕ, zero, suc, _^_, _<_}
+use mathlib.Core.List.{List}
+use lib.ListN.{getD, replicate}
+use Rattle.laws.specs.Choose.{if_then_else_}
+use Rattle.laws.specs.Upwards.{each}
+use Rattle.sets.specs.Sets.{In, member, union}
+
+-- nothing is tied
+abbrev pub untied : List ℕ
+untied = replicate 64 0
+
+-- the set with every tied set that it meets at an attribute below n
+unfoldable pub gathered : List ℕ → ℕ → ℕ → ℕ
+gathered t s zero = s
+gathered t s (suc n) = if member s n then union (gathered t s n) (getD t n 0) else gathered t s n
+
+-- tying a set: it and every tied set that it meets become one
+unfoldable pub tie : List ℕ → ℕ → List ℕ
+tie t s = each 64 (λ k. if member (gathered t s 64) k then gathered t s 64 else getD t k 0)
+
+-- two operands' tied sets together: those of the second below n tied into those of the first
+unfoldable pub merged : List ℕ → List ℕ → ℕ → List ℕ
+merged t u zero = t
+merged t u (suc n) = tie (merged t u n) (getD u n 0)
+
+-- two attributes are linked by a chain of ties, T saying which sets were tied; one that is tied is linked with itself
+pub data Chain (T : ℕ → Type 0) (i : ℕ) : ℕ → Type 0 where
+  one : {j m : ℕ} → T m → In i m → In j m → Chain T i j
+  step : {j k m : ℕ} → Chain T i j → T m → In j m → In k m → Chain T i k
+
+-- the tied sets are just what the chains of ties link, where only attributes below 64 were tied
+pub record Classes (T : ℕ → Type 0) (t : List ℕ) : Type 0 where
+  pub small : (m : ℕ) → T m → m < 2 ^ 64
+  pub linked : (i j : ℕ) → In j (getD t i 0) → Chain T i j
+  pub held : (i j : ℕ) → Chain T i j → In j (getD t i 0)

@@ -1,0 +1,2 @@
+-- What the planner's answers rest on.
+pub mod Answered

@@ -1,0 +1,2 @@
+-- What the planner's entries answer.
+pub mod Answers

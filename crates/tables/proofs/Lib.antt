@@ -1,0 +1,2 @@
+-- The tables of the night that a file holds.
+pub mod Nodes

@@ -1,0 +1,35 @@
+-- The record is the definition's.
+use borrow.Author.Needs.{needs}
+use Rattle.model.specs.Tables.{joined}
+use Rattle.tables.proofs.parts.join.Statement.{statement}
+use Rattle.tables.proofs.parts.join.Tie as tie
+
+merge-requires : tie.Need-merge-requires
+merge-requires c κs = search needs
+
+union-requires : tie.Need-union-requires
+union-requires c κs = search needs
+
+union-requires-2 : tie.Need-union-requires-2
+union-requires-2 c κs = search needs
+
+union-requires-3 : tie.Need-union-requires-3
+union-requires-3 c κs = search needs
+
+union-requires-4 : tie.Need-union-requires-4
+union-requires-4 c κs = search needs
+
+returns : tie.Need-returns
+unfolding joined
+returns c = cc
+
+pub join-spec : {M : Type 1} → statement M
+join-spec =
+    tie.close
+    (tie.spec
+    merge-requires
+    union-requires
+    union-requires-2
+    union-requires-3
+    union-requires-4
+    returns)

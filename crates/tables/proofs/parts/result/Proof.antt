@@ -1,0 +1,47 @@
+-- The record is the definition's.
+use borrow.Author.Needs.{needs}
+use Rattle.model.specs.Tables.{result}
+use Rattle.tables.proofs.parts.result.Statement.{statement}
+use Rattle.tables.proofs.parts.result.Tie as tie
+
+tests-requires : tie.Need-tests-requires
+tests-requires c κs = search needs
+
+tied-after-requires : tie.Need-tied-after-requires
+tied-after-requires c κs = search needs
+
+meet-requires : tie.Need-meet-requires
+meet-requires c κs = search needs
+
+meet-requires-2 : tie.Need-meet-requires-2
+meet-requires-2 c κs = search needs
+
+meet-requires-3 : tie.Need-meet-requires-3
+meet-requires-3 c κs = search needs
+
+union-requires : tie.Need-union-requires
+union-requires c κs = search needs
+
+meet-requires-4 : tie.Need-meet-requires-4
+meet-requires-4 c κs = search needs
+
+union-requires-2 : tie.Need-union-requires-2
+union-requires-2 c κs = search needs
+
+returns : tie.Need-returns
+unfolding result
+returns c = cc
+
+pub result-spec : {M : Type 1} → statement M
+result-spec =
+    tie.close
+    (tie.spec
+    tests-requires
+    tied-after-requires
+    meet-requires
+    meet-requires-2
+    meet-requires-3
+    union-requires
+    meet-requires-4
+    union-requires-2
+    returns)

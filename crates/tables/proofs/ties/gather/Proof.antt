@@ -1,0 +1,70 @@
+-- What is gathered grows by one attribute's tied set a turn.
+use Prim.Native.Nat.{_≤_, _-_}
+use mathlib.Core.Path.{_≡_, sym}
+use native.Mathlib.Omega.{arith}
+use borrow.Author.Needs.{needs}
+use Rattle.model.specs.Ties.{gathered}
+use Rattle.model.proofs.TableLaws.{gathered-none, gathered-more}
+use Rattle.tables.proofs.ties.gather.Statement.{statement}
+use Rattle.tables.proofs.ties.gather.Tie as tie
+
+abbrev Inv-loop : tie.InvT-loop
+Inv-loop set tied all₀ k₀ all k = (k ≤ 64) × (all ≡ gathered tied set k)
+
+abbrev μ-loop : tie.MeasureT-loop
+μ-loop set tied all₀ k₀ all k = 64 - k
+
+loop-holds : tie.Need-loop-holds Inv-loop μ-loop
+loop-holds c = (omega arith, sym (gathered-none (c .args .t1) (c .args .set)))
+
+cast-has : tie.Need-cast-has Inv-loop μ-loop
+cast-has c = omega arith
+
+has-requires : tie.Need-has-requires Inv-loop μ-loop
+has-requires c κs = search needs
+
+mul-union : tie.Need-mul-union Inv-loop μ-loop
+mul-union c = omega arith
+
+array-read-union : tie.Need-array-read-union Inv-loop μ-loop
+array-read-union c = omega arith
+
+union-requires : tie.Need-union-requires Inv-loop μ-loop
+union-requires c κs = search needs
+
+choose-requires : tie.Need-choose-requires Inv-loop μ-loop
+choose-requires c κs = search needs
+
+add-k : tie.Need-add-k Inv-loop μ-loop
+add-k c = omega arith
+
+loop-less : tie.Need-loop-less Inv-loop μ-loop
+loop-less c = omega arith
+
+loop-again : tie.Need-loop-again Inv-loop μ-loop
+loop-again c =
+    let a = c .before .before .before .before .before .args in
+    (omega arith, cc (gathered-more (a .t1) (a .set) (c .before .before .before .before .loop .k)))
+
+returns : tie.Need-returns Inv-loop μ-loop
+returns c =
+    let e : c .before .loop .k ≡ 64 = omega arith in
+    rw e at (c .before .loop .inv .1)
+
+pub gather-spec : {M : Type 1} → statement M
+gather-spec =
+    tie.close
+    (tie.spec
+    Inv-loop
+    μ-loop
+    loop-holds
+    cast-has
+    has-requires
+    mul-union
+    array-read-union
+    union-requires
+    choose-requires
+    add-k
+    loop-less
+    loop-again
+    returns)
