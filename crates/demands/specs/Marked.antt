@@ -1,12 +1,13 @@
 -- The facts that document 01 marks as proved, in one table.
-use Prim.Native.Nat.{ℕ}
+use Prim.Native.Nat.{ℕ, _<_}
 use mathlib.Core.Path.{_≡_}
 use mathlib.Core.Bool.{Bool, true, false, not}
 use mathlib.Core.List.{List, [], _∷_}
 use lib.Dec.{eqb}
 use lib.ListN.{getD}
 use Rattle.laws.specs.First.{somewhere}
-use Rattle.sets.specs.Sets.{member}
+use Rattle.laws.specs.Trials.{answers}
+use Rattle.sets.specs.Sets.{member, single}
 use Rattle.night.specs.declared.Node.{Node}
 use Rattle.night.specs.Night.{Night}
 use Rattle.night.specs.Views.{anySubject, viewOf, clearOf, sealedOf}
@@ -14,8 +15,9 @@ use Rattle.layout.specs.Layout.{nightOf}
 use Rattle.model.specs.declared.Table.{Table}
 use Rattle.model.specs.Ties.{untied, tie}
 use Rattle.model.specs.Tables.{blank, leafTable, stepTable}
-use Rattle.model.specs.Candidates.{clearOffends, sealedOffends, tiedOffends, candidateSet}
+use Rattle.model.specs.Candidates.{clearOffends, sealedOffends, tiedOffends}
 use Rattle.reading.specs.Sample.{sample}
+use Rattle.planning.specs.Answers.{candidatesOf}
 use Rattle.demands.specs.SampleNight.{sampleNight}
 
 -- the profile of the sample: clear P, sealed B S C, tied {S, C}, where S B D T C P are 0 to 5
@@ -30,13 +32,12 @@ conditions p =
     ∷ not (somewhere (tiedOffends profile (clearOf sampleNight p) (sealedOf sampleNight p)) 64)
     ∷ []
 
--- a user function over attribute 5 alone
-abbrev pub function : Node
-function = record { kind = 8; left = 0; right = 255; x = 5; y = 255; spare1 = 0; spare2 = 0; spare3 = 0; set = 32; needed = 0; size = 0 }
+-- a user function over attribute a alone, and an operand that has just this attribute
+abbrev pub functionOver : ℕ → Node
+functionOver a = record { kind = 8; left = 0; right = 255; x = a; y = 255; spare1 = 0; spare2 = 0; spare3 = 0; set = single 64 a; needed = 0; size = 0 }
 
--- its operand
-abbrev pub operand : Table
-operand = record { clear = 32; sealed = 0; tested = 0; hidden = 0; tied = untied }
+abbrev pub operandOf : ℕ → Table
+operandOf a = record { clear = single 64 a; sealed = 0; tested = 0; hidden = 0; tied = untied }
 
 -- subjects H I U X Y Z are 0 to 5
 pub record Marked : Type 0 where
@@ -52,9 +53,9 @@ pub record Marked : Type 0 where
   pub i-sees-d-not-clear : member (clearOf sampleNight 1) 2 ≡ false
   pub any-has-d-clear : member (viewOf sampleNight anySubject 0 .clear) 2 ≡ true
   -- candidates: node 1 all six; 3 and 4 all but I; 5 U and Y
-  pub node-1 : candidateSet sampleNight 1 ≡ 63
-  pub node-3 : candidateSet sampleNight 3 ≡ 61
-  pub node-4 : candidateSet sampleNight 4 ≡ 61
-  pub node-5 : candidateSet sampleNight 5 ≡ 20
+  pub node-1 : candidatesOf sample 1 ≡ answers 63
+  pub node-3 : candidatesOf sample 3 ≡ answers 61
+  pub node-4 : candidatesOf sample 4 ≡ answers 61
+  pub node-5 : candidatesOf sample 5 ≡ answers 20
   -- a user function over {a} ties {a}
-  pub function-ties : getD (stepTable function operand blank .tied) 5 0 ≡ 32
+  pub function-ties : (a : ℕ) → a < 64 → getD (stepTable (functionOver a) (operandOf a) blank .tied) a 0 ≡ single 64 a

@@ -4,3 +4,4 @@ pub mod First
 pub mod Trials
 pub mod Upwards
 pub mod BigEndian
+pub mod Sums

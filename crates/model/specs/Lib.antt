@@ -1,4 +1,6 @@
--- Tables and candidates.
+-- Tables, candidates, and the cheapest choice.
 pub mod Ties
 pub mod Tables
 pub mod Candidates
+pub mod Choice
+pub mod Dp

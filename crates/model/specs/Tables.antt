@@ -8,7 +8,7 @@ use lib.Dec.{eqb}
 use lib.ListN.{getD}
 use Rattle.laws.specs.Choose.{if_then_else_}
 use Rattle.laws.specs.Upwards.{upwards}
-use Rattle.sets.specs.Sets.{union, meet, minus}
+use Rattle.sets.specs.Sets.{In, Within, union, meet, minus}
 use Rattle.night.specs.declared.Node.{Node}
 use Rattle.night.specs.Night.{Night, nodeOf}
 use Rattle.night.specs.Kinds.{usesLeft, usesRight, attribute, readTogether, visibleAfter}
@@ -63,8 +63,8 @@ joined t u =
       tied = merged (t .tied) (u .tied) 64;
     }
 
--- a step's result, where t is its operands' parts joined and `after` is visible after it: each attribute keeps its form; what is tested joins the implicit part of the form
--- it has; what is tied is tied. Implicit and tied parts are never removed
+-- a step's result, where t is its operands' parts joined and `after` is visible after it: each attribute keeps its form; what is tested
+-- joins the implicit part of the form it has; what is tied is tied. Implicit and tied parts are never removed
 unfoldable pub result : Node → ℕ → Table → Table
 result v after t =
     record {
@@ -113,3 +113,16 @@ pub data TiedAt (N : Night) : ℕ → ℕ → Type 0 where
 -- two attributes stand in one tied set of a node's table exactly when a chain of the ties made so far links them
 abbrev pub TiedMeaning : Type 0
 TiedMeaning = (N : Night) → Promised N → (i : ℕ) → i < N .header .nodes → Classes (TiedAt N i) (tableOf N i .tied)
+
+-- nothing of the implicit and tied parts of the first table is missing in the second
+pub record Keeps (t u : Table) : Type 0 where
+  pub tested : Within (t .tested) (u .tested)
+  pub hidden : Within (t .hidden) (u .hidden)
+  pub tied : (j k : ℕ) → In k (getD (t .tied) j 0) → In k (getD (u .tied) j 0)
+
+-- implicit and tied parts are never removed: a step's table keeps those of its operands
+abbrev pub NeverRemoved : Type 0
+NeverRemoved =
+    (N : Night) → Promised N → (i : ℕ) → i < N .header .nodes
+    → (usesLeft (nodeOf N i .kind) ≡ true → Keeps (tableOf N (nodeOf N i .left)) (tableOf N i))
+    × (usesRight (nodeOf N i .kind) ≡ true → Keeps (tableOf N (nodeOf N i .right)) (tableOf N i))

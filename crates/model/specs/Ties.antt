@@ -29,7 +29,7 @@ pub data Chain (T : ℕ → Type 0) (i : ℕ) : ℕ → Type 0 where
   one : {j m : ℕ} → T m → In i m → In j m → Chain T i j
   step : {j k m : ℕ} → Chain T i j → T m → In j m → In k m → Chain T i k
 
--- the tied sets are just what the chains of ties link, where only attributes below 64 were tied
+-- the tied sets are just what the chains of ties link, and every tied set fits 64 bits
 pub record Classes (T : ℕ → Type 0) (t : List ℕ) : Type 0 where
   pub small : (m : ℕ) → T m → m < 2 ^ 64
   pub linked : (i j : ℕ) → In j (getD t i 0) → Chain T i j

@@ -1,4 +1,4 @@
-// The profile of a table, as document 01 has it. No functions: what the definitions are over, and what planning works out.
+// What the definitions of planning are over, and what its code works out. No functions.
 
 // Attributes visible in clear and sealed, those that past steps tested in clear and sealed, and for each attribute the tied set that it
 // stands in, empty where it is not tied.
@@ -8,4 +8,11 @@ pub struct Table {
     pub tested: u64,
     pub hidden: u64,
     pub tied: [u64; 64],
+}
+
+// The cheapest subject so far: whether there is one, its cost, and the lowest subject of that cost.
+pub struct Best {
+    pub found: bool,
+    pub least: u64,
+    pub lowest: u8,
 }

@@ -16,7 +16,7 @@ pub record Night : Type 0 where
   pub stepPrices : List (List ℕ)
   pub linkPrices : List (List ℕ)
 
--- what stands past the end of a list of records; no rule looks there
+-- what stands past the end of a list of records: no relation, no grant that lets see anything, a leaf of nothing
 abbrev pub noRelation : Relation
 noRelation = record { owner = 0; set = 0 }
 

@@ -15,7 +15,7 @@ abbrev pub AllOrNone : ℕ → List ℕ → Type 0
 AllOrNone needed [] = Unit {0}
 AllOrNone needed (t ∷ ts) = (Apart needed t ⊎ Within t needed) × AllOrNone needed ts
 
--- the counts are within their limits
+-- the counts are within their limits; that there is a grant at all follows from the owners' views
 pub record SoundCounts (N : Night) : Type 0 where
   pub subjects-some : 1 ≤ N .header .subjects
   pub subjects-most : N .header .subjects ≤ 16

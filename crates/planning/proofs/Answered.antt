@@ -2,9 +2,12 @@
 use Prim.Native.Nat.{ℕ}
 use mathlib.Core.Path.{_≡_, refl, ap}
 use mathlib.Core.List.{List}
+use mathlib.Core.Logic.{⊎-elim}
 use native.Mathlib.Omega.{arith}
 use Rattle.laws.specs.Trials.{answers, refuses}
 use Rattle.laws.proofs.Trials.{passed, refused-alike, accepted-alike}
+use Rattle.sets.proofs.Members.{in-none, same-members}
+use Rattle.layout.proofs.Sections.{node-past}
 use Rattle.night.specs.declared.Header.{Header}
 use Rattle.layout.specs.Layout.{headerOf, nightIn, nightOf}
 use Rattle.model.specs.Candidates.{candidateSet}
@@ -13,7 +16,7 @@ use Rattle.reading.specs.Trials.{trials}
 use Rattle.reading.specs.Answers.{checkOf}
 use Rattle.reading.proofs.Opened.{accepted-header}
 use Rattle.reading.proofs.Promises.{accepted-promises}
-use Rattle.planning.specs.Answers.{candidatesOf, CandidatesExactly, CandidatesOnce}
+use Rattle.planning.specs.Answers.{candidatesOf, CandidatesExactly, CandidatesOnce, NoneElsewhere}
 use Rattle.planning.specs.declared.CandidateSet.the-variants.{Among, Refused}
 
 pub candidates-refused : (s : List ℕ) (i n p : ℕ) → checkOf s ≡ refuses n p → candidatesOf s i ≡ refuses n p
@@ -30,6 +33,11 @@ candidates-exactly s i set e p =
     let N = nightOf s in
     let sound = accepted-promises s (headerOf s) (accepted-alike (trials s) (candidateSet N i) set (headerOf s) e) in
     rw (← passed (trials s) (candidateSet N i) set e .1) (set-exactly N i p (sound .counts .subjects-most))
+
+pub none-elsewhere : NoneElsewhere
+unfolding nightIn
+none-elsewhere s i set e out =
+    same-members set 0 (λ p h. absurd (candidates-exactly s i set e p .0 h .1 .step (⊎-elim (λ l. rw (node-past s (headerOf s) i l) refl) (λ z. z) out))) (λ p h. absurd (in-none p h))
 
 pub candidates-once : CandidatesOnce
 candidates-once (Among a) (Among b) e = let same : a ≡ b = cc in ap Among same

@@ -1,10 +1,11 @@
 -- What each case of an answer says: document 01's number and place, or the values.
-use Prim.Native.Nat.{ℕ, _<_}
+use Prim.Native.Nat.{ℕ, _<_, _≤_}
 use mathlib.Core.Path.{_≡_}
 use mathlib.Core.List.{List}
-use mathlib.Core.Logic.{_↔_}
+use mathlib.Core.Logic.{_↔_, _⊎_}
 use Rattle.laws.specs.Trials.{Says, answers, refuses, verdict}
 use Rattle.sets.specs.Sets.{In}
+use Rattle.night.specs.Night.{nodeOf}
 use Rattle.night.specs.Views.{clearOf, sealedOf}
 use Rattle.layout.specs.Layout.{nightOf}
 use Rattle.model.specs.Candidates.{Candidate, candidateSet}
@@ -35,3 +36,7 @@ CandidatesExactly = (s : List ℕ) (i set : ℕ) → candidatesOf s i ≡ answer
 -- any two answers that say the same are the same
 abbrev pub CandidatesOnce : Type 0
 CandidatesOnce = (a b : CandidateSet) → candidatesSaid a ≡ candidatesSaid b → a ≡ b
+
+-- a leaf and a number that no node has get the empty set
+abbrev pub NoneElsewhere : Type 0
+NoneElsewhere = (s : List ℕ) (i set : ℕ) → candidatesOf s i ≡ answers set → (nightOf s .header .nodes ≤ i) ⊎ (nodeOf (nightOf s) i .kind ≡ 0) → set ≡ 0

@@ -1,5 +1,5 @@
 // The entries of the planner. Each takes any bytes, asks nothing of its caller, and answers or refuses with a number and a place.
-mod chosen;
+mod eligible;
 
 use reading::Checked;
 ghost use mathlib.Core.Path.{_≡_};
@@ -29,5 +29,5 @@ pub fn candidates(file: &[u8], node: usize) -> CandidateSet
     let Checked::Accepted(h) = answer else {
         return refused(answer);
     };
-    CandidateSet::Among(chosen::candidate_set(file, h, node))
+    CandidateSet::Among(eligible::candidate_set(file, h, node))
 }

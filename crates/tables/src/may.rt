@@ -39,15 +39,15 @@ fn tied_offends(t: Table, clear: u64, sealed: u64) -> bool
 pub fn may_have(t: Table, clear: u64, sealed: u64) -> bool
     ensures { λ r. ⌜ r ≡ may t clear sealed ⌝ }
 {
-    let shown = attributes::minus(attributes::union(t.clear, t.tested), clear);
-    if shown != 0 {
+    let clear_offends = attributes::minus(attributes::union(t.clear, t.tested), clear);
+    if clear_offends != 0 {
         return false;
     }
-    let covered = attributes::minus(
+    let sealed_offends = attributes::minus(
         attributes::union(t.sealed, t.hidden),
         attributes::union(clear, sealed),
     );
-    if covered != 0 {
+    if sealed_offends != 0 {
         return false;
     }
     !tied_offends(t, clear, sealed)

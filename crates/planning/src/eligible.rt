@@ -55,7 +55,7 @@ fn is_candidate(file: &[u8], h: Header, i: usize, clear: u64, sealed: u64) -> bo
 }
 
 // Subject p as a set where it is a candidate of node i, else no subject.
-fn chosen(file: &[u8], h: Header, i: usize, p: u8) -> u16
+fn as_candidate(file: &[u8], h: Header, i: usize, p: u8) -> u16
     ensures { λ r. ⌜ r ≡ (if isCandidate (nightIn (now (file .entry)) h) i (clearOf (nightIn (now (file .entry)) h) p) (sealedOf (nightIn (now (file .entry)) h) p) then single 16 p else 0) ⌝ }
 {
     let view = views::overall(file, h, p);
@@ -72,7 +72,7 @@ pub(crate) fn candidate_set(file: &[u8], h: Header, i: usize) -> u16
     let mut set: u16 = 0;
     let mut p: u8 = 0;
     while p < h.subjects {
-        set = subjects::union(set, chosen(file, h, i, p));
+        set = subjects::union(set, as_candidate(file, h, i, p));
         p += 1;
     }
     set

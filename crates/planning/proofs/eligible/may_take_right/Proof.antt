@@ -1,8 +1,8 @@
 -- Only a node with a right operand is asked.
 use borrow.Author.Needs.{needs}
 use Rattle.laws.proofs.Cases.{cases}
-use Rattle.planning.proofs.chosen.may_take_right.Statement.{statement}
-use Rattle.planning.proofs.chosen.may_take_right.Tie as tie
+use Rattle.planning.proofs.eligible.may_take_right.Statement.{statement}
+use Rattle.planning.proofs.eligible.may_take_right.Tie as tie
 
 node-requires : tie.Need-node-requires
 node-requires c κs = search needs

@@ -1,8 +1,8 @@
 -- The least view of the operand's table, asked.
 use borrow.Author.Needs.{needs}
 use Rattle.model.specs.Candidates.{mayTake}
-use Rattle.planning.proofs.chosen.may_take.Statement.{statement}
-use Rattle.planning.proofs.chosen.may_take.Tie as tie
+use Rattle.planning.proofs.eligible.may_take.Statement.{statement}
+use Rattle.planning.proofs.eligible.may_take.Tie as tie
 
 node-requires : tie.Need-node-requires
 node-requires c κs = search needs

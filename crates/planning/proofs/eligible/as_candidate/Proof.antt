@@ -3,8 +3,8 @@ use borrow.Author.Needs.{needs}
 use Rattle.laws.proofs.Cases.{cases}
 use mathlib.Core.Path.{ap}
 use Rattle.night.specs.declared.View.{View}
-use Rattle.planning.proofs.chosen.chosen.Statement.{statement}
-use Rattle.planning.proofs.chosen.chosen.Tie as tie
+use Rattle.planning.proofs.eligible.as_candidate.Statement.{statement}
+use Rattle.planning.proofs.eligible.as_candidate.Tie as tie
 
 overall-requires : tie.Need-overall-requires
 overall-requires c κs = search needs
@@ -25,6 +25,6 @@ returns-2 c =
     rw (← ap (λ (v : View). v .clear) (c .before .before .overall .ensures), ← ap (λ (v : View). v .sealed) (c .before .before .overall .ensures), ← c .before .is-candidate .ensures)
     (search cases depth 20)
 
-pub chosen-spec : {M : Type 1} → statement M
-chosen-spec =
+pub as-candidate-spec : {M : Type 1} → statement M
+as-candidate-spec =
     tie.close (tie.spec overall-requires is-candidate-requires single-requires returns returns-2)

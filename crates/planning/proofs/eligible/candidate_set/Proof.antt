@@ -9,8 +9,8 @@ use Rattle.sets.proofs.Words.{unions-none, unions-more}
 use Rattle.night.specs.Views.{clearOf, sealedOf}
 use Rattle.layout.specs.Layout.{nightIn}
 use Rattle.model.specs.Candidates.{isCandidate, candidateSet}
-use Rattle.planning.proofs.chosen.candidate_set.Statement.{statement}
-use Rattle.planning.proofs.chosen.candidate_set.Tie as tie
+use Rattle.planning.proofs.eligible.candidate_set.Statement.{statement}
+use Rattle.planning.proofs.eligible.candidate_set.Tie as tie
 
 abbrev Inv-loop : tie.InvT-loop
 Inv-loop file h i set₀ p₀ set p = (p ≤ h .subjects) × (set ≡ unions (λ q. if isCandidate (nightIn file h) i (clearOf (nightIn file h) q) (sealedOf (nightIn file h) q) then single 16 q else 0) p)
@@ -21,8 +21,8 @@ abbrev μ-loop : tie.MeasureT-loop
 loop-holds : tie.Need-loop-holds Inv-loop μ-loop
 loop-holds c = (omega arith, sym (unions-none _))
 
-chosen-requires : tie.Need-chosen-requires Inv-loop μ-loop
-chosen-requires c κs = search needs
+as-candidate-requires : tie.Need-as-candidate-requires Inv-loop μ-loop
+as-candidate-requires c κs = search needs
 
 union-requires : tie.Need-union-requires Inv-loop μ-loop
 union-requires c κs = search needs
@@ -49,7 +49,7 @@ candidate-set-spec =
     Inv-loop
     μ-loop
     loop-holds
-    chosen-requires
+    as-candidate-requires
     union-requires
     add-p
     loop-less

@@ -2,8 +2,8 @@
 use borrow.Author.Needs.{needs}
 use Rattle.laws.proofs.Cases.{cases}
 use Rattle.model.specs.Candidates.{isCandidate}
-use Rattle.planning.proofs.chosen.is_candidate.Statement.{statement}
-use Rattle.planning.proofs.chosen.is_candidate.Tie as tie
+use Rattle.planning.proofs.eligible.is_candidate.Statement.{statement}
+use Rattle.planning.proofs.eligible.is_candidate.Tie as tie
 
 node-requires : tie.Need-node-requires
 node-requires c κs = search needs

@@ -1,0 +1,7 @@
+-- Sums.
+use Prim.Native.Nat.{ℕ, zero, suc, _+_}
+
+-- f 0 + f 1 + .. below n
+unfoldable pub sum : (ℕ → ℕ) → ℕ → ℕ
+sum f zero = 0
+sum f (suc n) = sum f n + f n
