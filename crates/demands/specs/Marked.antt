@@ -9,12 +9,11 @@ use Rattle.laws.specs.First.{somewhere}
 use Rattle.laws.specs.Trials.{answers}
 use Rattle.sets.specs.Sets.{member, single}
 use Rattle.night.specs.declared.Node.{Node}
-use Rattle.night.specs.Night.{Night}
 use Rattle.night.specs.Views.{anySubject, viewOf, clearOf, sealedOf}
 use Rattle.layout.specs.Layout.{nightOf}
 use Rattle.model.specs.declared.Table.{Table}
 use Rattle.model.specs.Ties.{untied, tie}
-use Rattle.model.specs.Tables.{blank, leafTable, stepTable}
+use Rattle.model.specs.Tables.{blank, stepTable}
 use Rattle.model.specs.Candidates.{clearOffends, sealedOffends, tiedOffends}
 use Rattle.reading.specs.Sample.{sample}
 use Rattle.planning.specs.Answers.{candidatesOf}

@@ -5,7 +5,7 @@ ghost use lib.ListN.{getD};
 ghost use Rattle.laws.specs.BigEndian.{be};
 
 // The byte at `at`.
-pub fn byte(file: &[u8], at: usize) -> u8
+pub(crate) fn byte(file: &[u8], at: usize) -> u8
     ensures { λ r. ⌜ r ≡ getD (now (file .entry)) at 0 ⌝ }
 {
     if at < file.len() {
@@ -40,21 +40,21 @@ fn number(file: &[u8], at: usize, n: usize) -> u64
 }
 
 // The 16-bit number at `at`.
-pub fn two(file: &[u8], at: usize) -> u16
+pub(crate) fn two(file: &[u8], at: usize) -> u16
     ensures { λ r. ⌜ r ≡ be (now (file .entry)) at 2 ⌝ }
 {
     number(file, at, 2) as u16
 }
 
 // The 32-bit number at `at`.
-pub fn four(file: &[u8], at: usize) -> u32
+pub(crate) fn four(file: &[u8], at: usize) -> u32
     ensures { λ r. ⌜ r ≡ be (now (file .entry)) at 4 ⌝ }
 {
     number(file, at, 4) as u32
 }
 
 // The 64-bit number at `at`.
-pub fn eight(file: &[u8], at: usize) -> u64
+pub(crate) fn eight(file: &[u8], at: usize) -> u64
     ensures { λ r. ⌜ r ≡ be (now (file .entry)) at 8 ⌝ }
 {
     number(file, at, 8)

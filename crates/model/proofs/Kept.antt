@@ -1,6 +1,6 @@
 -- A step's table keeps the implicit and tied parts of its operands.
 use Prim.Native.Nat.{ℕ, _<_}
-use mathlib.Core.Path.{_≡_, refl}
+use mathlib.Core.Path.{_≡_}
 use mathlib.Core.Bool.{Bool, true, false}
 use mathlib.Core.Logic.{inl, inr}
 use native.Mathlib.Omega.{arith}
@@ -13,7 +13,7 @@ use Rattle.night.specs.Night.{Night, nodeOf}
 use Rattle.night.specs.Kinds.{usesLeft, usesRight}
 use Rattle.night.specs.Promised.{Promised}
 use Rattle.model.specs.declared.Table.{Table}
-use Rattle.model.specs.Tables.{leastView, joined, result, stepTable, tableOf, TiedAt, under-left, under-right, Keeps, NeverRemoved}
+use Rattle.model.specs.Tables.{leastView, joined, result, stepTable, tableOf, under-left, under-right, Keeps, NeverRemoved}
 use Rattle.model.proofs.Chains.{chain-map}
 use Rattle.model.proofs.TableLaws.{table-step, operandOf}
 use Rattle.model.proofs.Meaning.{tied-meaning}

@@ -1,7 +1,6 @@
 -- Choices of subjects, what they cost, and which is the cheapest.
 use Prim.Native.Nat.{ℕ, _+_, _*_, _<_, _≤_}
 use mathlib.Core.Path.{_≡_}
-use mathlib.Core.Bool.{Bool, true, false}
 use lib.Dec.{eqb}
 use Rattle.laws.specs.Choose.{if_then_else_}
 use Rattle.laws.specs.Sums.{sum}
