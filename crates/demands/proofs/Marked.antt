@@ -1,29 +1,40 @@
 -- The facts that document 01 marks as proved, by computation.
 use Prim.Native.Nat.{ℕ, _<_}
-use mathlib.Core.Path.{_≡_, refl, ap, _∙_}
+use mathlib.Core.Path.{_≡_, refl, sym, ap, _∙_}
 use mathlib.Core.Bool.{true, false, not}
 use mathlib.Core.List.{List, [], _∷_}
+use native.Mathlib.Nat.{le-antisymm}
+use native.Mathlib.Omega.{arith}
+use lib.Count.{ones}
 use lib.Dec.{eqb}
 use lib.ListN.{getD}
 use borrow.Author.Tests.{eqb-true, not-false}
 use Rattle.laws.specs.Choose.{anyOf}
 use Rattle.laws.specs.BigEndian.{be}
 use Rattle.laws.specs.First.{first, somewhere}
+use Rattle.laws.specs.Sums.{sum}
 use Rattle.laws.specs.Trials.{answers}
 use Rattle.laws.proofs.First.{somewhere-false}
 use Rattle.laws.specs.Upwards.{upwards}
-use Rattle.sets.specs.Sets.{bit, member, union, meet, minus, within, single, unions}
+use Rattle.sets.specs.Sets.{bit, member, union, meet, minus, within, single, size, unions}
 use Rattle.night.specs.declared.Header.{Header}
-use Rattle.night.specs.Night.{Night, grantOf, nodeOf}
-use Rattle.night.specs.Kinds.{usesRight, reads, readTogether, visibleAfter}
+use Rattle.night.specs.Night.{Night, relationOf, grantOf, nodeOf, stepPrice, linkPrice}
+use Rattle.night.specs.Kinds.{usesLeft, usesRight, reads, readTogether, visibleAfter}
+use Rattle.night.specs.Promised.{Promised}
 use Rattle.night.specs.Views.{anySubject, isFor, grantFor, viewOf, clearOf, sealedOf}
 use Rattle.layout.specs.Layout.{grantsFrom, nodesFrom, stepPricesFrom, linkPricesFrom, headerOf, relationAt, grantAt, nodeAt, pricesAt, nightIn, nightOf}
 use Rattle.model.specs.Ties.{gathered, tie, merged}
 use Rattle.model.specs.Tables.{blank, leastView, tests, ties, joined, result, leafTable, stepTable, tableStep, tables, tableOf}
 use Rattle.model.specs.Candidates.{clearOffends, sealedOffends, tiedOffends, may, mayTake, isCandidate, candidateSet}
+use Rattle.model.specs.Choice.{Choice, AllHave, Least, total, weight, stepsAt, steps}
+use Rattle.model.specs.Dp.{subjectsOf, better, offered, bestOf, bestChild, rowEntry, rowStep, costRows, bestLast}
+use Rattle.model.specs.Refusals.{withoutCandidate}
+use Rattle.model.proofs.Dp.{dp-least, chosen-total}
 use Rattle.reading.specs.Sample.{sample}
 use Rattle.reading.proofs.Opened.{accepted-header}
+use Rattle.reading.proofs.Promises.{accepted-promises}
 use Rattle.reading.proofs.Sample.{sample-accepted}
+use Rattle.choosing.proofs.Answered.{none-below, all-have}
 use Rattle.planning.specs.Answers.{candidatesOf}
 use Rattle.planning.proofs.Answered.{candidates-accepted}
 use Rattle.demands.specs.SampleNight.{sampleNight}
@@ -47,6 +58,32 @@ of-bytes : (i set : ℕ) → candidateSet sampleNight i ≡ set → candidatesOf
 of-bytes i set e =
     let same : nightIn sample head ≡ sampleNight = rw (← accepted-header sample head sample-accepted) decoded in
     candidates-accepted sample head i sample-accepted ∙ ap (λ (N : Night). answers (candidateSet N i)) same ∙ ap answers e
+
+-- the steps, that every step has a candidate, and the least cost of the last node
+steps-are : steps sampleNight ≡ 76
+unfolding anyOf be first somewhere upwards bit member union meet minus within single unions grantOf nodeOf usesRight reads readTogether visibleAfter isFor grantFor viewOf clearOf sealedOf grantsFrom nodesFrom stepPricesFrom linkPricesFrom headerOf relationAt grantAt nodeAt pricesAt nightIn gathered tie merged leastView tests ties joined result leafTable stepTable tableStep tables tableOf clearOffends sealedOffends tiedOffends may mayTake isCandidate candidateSet sample sampleNight ones size sum usesLeft weight stepsAt steps
+steps-are = refl
+
+none-without : first (withoutCandidate sampleNight) 6 ≡ 6
+unfolding anyOf be first somewhere upwards bit member union meet minus within single unions grantOf nodeOf usesRight reads readTogether visibleAfter isFor grantFor viewOf clearOf sealedOf grantsFrom nodesFrom stepPricesFrom linkPricesFrom headerOf relationAt grantAt nodeAt pricesAt nightIn gathered tie merged leastView tests ties joined result leafTable stepTable tableStep tables tableOf clearOffends sealedOffends tiedOffends may mayTake isCandidate candidateSet sample sampleNight withoutCandidate
+none-without = refl
+
+least-is : bestLast sampleNight (costRows sampleNight) .least ≡ 14
+unfolding anyOf be first somewhere upwards bit member union meet minus within single unions grantOf nodeOf usesRight reads readTogether visibleAfter isFor grantFor viewOf clearOf sealedOf grantsFrom nodesFrom stepPricesFrom linkPricesFrom headerOf relationAt grantAt nodeAt pricesAt nightIn gathered tie merged leastView tests ties joined result leafTable stepTable tableStep tables tableOf clearOffends sealedOffends tiedOffends may mayTake isCandidate candidateSet sample sampleNight relationOf stepPrice linkPrice usesLeft subjectsOf better offered bestOf bestChild rowEntry rowStep costRows bestLast
+least-is = refl
+
+-- the choice that is worked out costs that, and so does every other cheapest choice
+sound : Promised sampleNight
+sound = rw decoded at (accepted-promises sample head sample-accepted)
+
+have : AllHave sampleNight
+unfolding sampleNight
+have = all-have sampleNight sound (none-below (withoutCandidate sampleNight) 6 6 (sym none-without) (omega arith))
+
+total-of : (c : Choice) → Least sampleNight c → total sampleNight c ≡ 14
+total-of c L =
+    let D = dp-least sampleNight sound have in
+    le-antisymm (L .cheapest _ (D .admissible)) (D .cheapest c (L .admissible)) ∙ chosen-total sampleNight sound have ∙ least-is
 
 -- each attribute, by one test over all of them
 each-ties : somewhere (λ a. not (eqb (getD (stepTable (functionOver a) (operandOf a) blank .tied) a 0) (single 64 a))) 64 ≡ false
@@ -82,5 +119,7 @@ marked =
       node-3 = of-bytes 3 61 (ap (λ (l : List ℕ). getD l 1 0) sets);
       node-4 = of-bytes 4 61 (ap (λ (l : List ℕ). getD l 2 0) sets);
       node-5 = of-bytes 5 20 (ap (λ (l : List ℕ). getD l 3 0) sets);
+      steps-all = rw decoded steps-are;
+      total-least = rw decoded total-of;
       function-ties = function-tied;
     }

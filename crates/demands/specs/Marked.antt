@@ -15,6 +15,7 @@ use Rattle.model.specs.declared.Table.{Table}
 use Rattle.model.specs.Ties.{untied, tie}
 use Rattle.model.specs.Tables.{blank, stepTable}
 use Rattle.model.specs.Candidates.{clearOffends, sealedOffends, tiedOffends}
+use Rattle.model.specs.Choice.{Choice, Least, total, steps}
 use Rattle.reading.specs.Sample.{sample}
 use Rattle.planning.specs.Answers.{candidatesOf}
 use Rattle.demands.specs.SampleNight.{sampleNight}
@@ -56,5 +57,8 @@ pub record Marked : Type 0 where
   pub node-3 : candidatesOf sample 3 ≡ answers 61
   pub node-4 : candidatesOf sample 4 ≡ answers 61
   pub node-5 : candidatesOf sample 5 ≡ answers 20
+  -- steps 76; the cheapest choice's total is 14
+  pub steps-all : steps (nightOf sample) ≡ 76
+  pub total-least : (c : Choice) → Least (nightOf sample) c → total (nightOf sample) c ≡ 14
   -- a user function over {a} ties {a}
   pub function-ties : (a : ℕ) → a < 64 → getD (stepTable (functionOver a) (operandOf a) blank .tied) a 0 ≡ single 64 a

@@ -8,6 +8,8 @@ use native.Mathlib.Omega.{arith}
 use native.Mathlib.Decide.{le-ind}
 use lib.ListN.{length, getD}
 use Rattle.laws.specs.Choose.{if_then_else_}
+use Rattle.laws.specs.First.{first}
+use Rattle.laws.proofs.First.{first-below, first-holds}
 use Rattle.laws.specs.Trials.{Trial, trial, Says, answers, refuses, verdict, rows, Passes, FirstToFail, RefusesExactly, AcceptsExactly}
 
 -- a refusal is no answer
@@ -140,3 +142,18 @@ refused-alike {A} {B} ts a b n p e = refuses-exactly B ts b n p .1 (refuses-exac
 
 pub accepted-alike : {A B : Type 0} (ts : List Trial) (a c : A) (b : B) → verdict ts a ≡ answers c → verdict ts b ≡ answers b
 accepted-alike ts a c b e = passes-accepts ts b (passed ts a c e .0)
+
+-- one trial for each number: the first that fails
+module _ (p : ℕ → Bool) (m : ℕ) where
+  abbrev one : ℕ → List Trial
+  one i = trial (p i) m i ∷ []
+
+  pub rows-pass : (i : ℕ) → ((k : ℕ) → k < i → p k ≡ false) → verdict (rows i one) (tt {0}) ≡ answers tt
+  unfolding rows
+  rows-pass zero h = passes-accepts [] tt tt
+  rows-pass (suc i) h =
+      passes-accepts (rows i one ++ one i) tt (passes-both (rows i one) (one i) (passed (rows i one) tt tt (rows-pass i (λ k l. h k (omega arith))) .0) (h i (omega arith), tt))
+
+  pub rows-stop : (n : ℕ) → first p n < n → verdict (rows n one) (tt {0}) ≡ refuses m (first p n)
+  unfolding verdict
+  rows-stop n l = rows-found one (first p n) n m (first p n) (rows-pass (first p n) (first-below p n)) (rw (first-holds p n l) refl) l

@@ -13,7 +13,8 @@ use Rattle.laws.specs.Choose.{if_then_else_}
 use Rattle.laws.proofs.Upwards.{each-at, each-past}
 use Rattle.sets.specs.Sets.{In, member, union}
 use Rattle.sets.proofs.Members.{bit-beyond, member-in, in-member, not-member, in-union, in-none}
-use Rattle.model.specs.Ties.{untied, gathered, tie, Chain, one, step, Classes}
+use Rattle.model.specs.Linked.{Chain, one, step}
+use Rattle.model.specs.Ties.{untied, gathered, tie, Classes}
 
 -- chains join
 pub chain-join : {T : ℕ → Type 0} {i j k : ℕ} → Chain T i j → Chain T j k → Chain T i k

@@ -10,8 +10,7 @@ use Rattle.sets.specs.Sets.{In}
 use Rattle.night.specs.Night.{Night, nodeOf, linkPrice}
 use Rattle.night.specs.Kinds.{isChild}
 use Rattle.night.specs.Promised.{Promised}
-use Rattle.model.specs.Candidates.{candidateSet}
-use Rattle.model.specs.Choice.{Choice, Admissible, handed, total, Earlier, Least}
+use Rattle.model.specs.Choice.{Choice, Admissible, AllHave, handed, total, Earlier, Least}
 use Rattle.model.specs.Dp.{subjectsOf, offered, noRow, bestChild, costRows, bestLast, chosen}
 use Rattle.model.proofs.Parents.{child-lower}
 use Rattle.model.proofs.Lowest.{Found, best-found, found-some}
@@ -23,10 +22,6 @@ use Rattle.model.proofs.Greedy.{entryAt, childAt, last-le, child-tight,
 last-found : (N : Night) → Found (λ t. costOf N (N .header .nodes - 1) t + 0 * linkPrice N t 0) (subjectsOf N (N .header .nodes - 1)) 16 (bestLast N (costRows N))
 unfolding bestLast costOf offered
 last-found N = best-found N (getD (costRows N) (N .header .nodes - 1) noRow) (subjectsOf N (N .header .nodes - 1)) 0 0 16
-
--- every step has a candidate
-abbrev pub AllHave : Night → Type 0
-AllHave N = (i : ℕ) → i < N .header .nodes → (nodeOf N i .kind ≡ 0 → ⊥) → (p : ℕ) × In p (candidateSet N i)
 
 module _ (N : Night) (sound : Promised N) (some : AllHave N) where
   abbrev n : ℕ

@@ -5,7 +5,7 @@ use mathlib.Core.Bool.{Bool, true, false}
 use mathlib.Core.Logic.{inl, inr}
 use native.Mathlib.Omega.{arith}
 use borrow.Author.Tests.{lt-ltb}
-use Rattle.laws.specs.Choose.{if_then_else_, anyOf}
+use Rattle.laws.specs.Choose.{anyOf}
 use Rattle.sets.specs.Sets.{Within, union}
 use Rattle.sets.proofs.Members.{in-union}
 use Rattle.night.specs.declared.Node.{Node}
@@ -15,7 +15,7 @@ use Rattle.night.specs.Promised.{Promised}
 use Rattle.model.specs.declared.Table.{Table}
 use Rattle.model.specs.Tables.{leastView, joined, result, stepTable, tableOf, under-left, under-right, Keeps, NeverRemoved}
 use Rattle.model.proofs.Chains.{chain-map}
-use Rattle.model.proofs.TableLaws.{table-step, operandOf}
+use Rattle.model.proofs.TableLaws.{table-step, operandOf, both}
 use Rattle.model.proofs.Meaning.{tied-meaning}
 
 -- a union has what each of the two has
@@ -24,10 +24,6 @@ first-of a b k h = in-union a b k .1 (inl h)
 
 second-of : (a b : ℕ) → Within b (union a b)
 second-of a b k h = in-union a b k .1 (inr h)
-
--- what a step has of its operands: their least views, joined where there are two
-abbrev both : Bool → ℕ → Table → Table → Table
-both b needed l r = if b then joined (leastView needed l) (leastView needed r) else leastView needed l
 
 both-left : (b : Bool) (needed : ℕ) (l r : Table) → Within (l .tested) (both b needed l r .tested) × Within (l .hidden) (both b needed l r .hidden)
 unfolding joined leastView
@@ -46,14 +42,14 @@ unfolding stepTable result
 step-keeps v l r = (first-of _ _, first-of _ _)
 
 -- a node with an operand is a step
-left-step : (kind : ℕ) → usesLeft kind ≡ true → kind ≡ 0 → ⊥
+pub left-step : (kind : ℕ) → usesLeft kind ≡ true → kind ≡ 0 → ⊥
 unfolding usesLeft
 left-step kind u z =
     let e : usesLeft 0 ≡ true = rw z at u in
     let q : _≡_ {A = ℕ} 0 1 = cc in
     omega arith
 
-right-step : (kind : ℕ) → usesRight kind ≡ true → kind ≡ 0 → ⊥
+pub right-step : (kind : ℕ) → usesRight kind ≡ true → kind ≡ 0 → ⊥
 unfolding usesRight anyOf
 right-step kind u z =
     let e : usesRight 0 ≡ true = rw z at u in

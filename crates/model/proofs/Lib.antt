@@ -1,4 +1,4 @@
--- The laws on tables, candidates and the cheapest choice.
+-- The laws on tables, candidates, the cheapest choice, the plan and its run.
 pub mod Chains
 pub mod Merged
 pub mod May
@@ -13,3 +13,16 @@ pub mod CostRows
 pub mod Greedy
 pub mod Dp
 pub mod Weight
+pub mod Shown
+pub mod Sees
+pub mod Built
+pub mod HeldLaws
+pub mod PastLaws
+pub mod RunCandidates
+pub mod Reached
+pub mod KeysAgree
+pub mod KeyLaws
+pub mod BuiltColumns
+pub mod BuiltFree
+pub mod BuiltAllowed
+pub mod Demand

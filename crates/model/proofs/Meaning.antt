@@ -17,6 +17,7 @@ use Rattle.night.specs.Promised.{Promised}
 use Rattle.night.proofs.Visible.{step-uses-left, visible-below}
 use Rattle.model.specs.Ties.{Classes, tie}
 use Rattle.model.specs.Tables.{leastView, joined, result, leafTable, stepTable, tableOf, ties, tieAll, Listed, TiedAt, here, under-left, under-right, TiedMeaning}
+use Rattle.model.proofs.Lowest.{clash}
 use Rattle.model.proofs.Chains.{untied-classes, tie-classes, same-classes}
 use Rattle.model.proofs.Merged.{merged-classes}
 use Rattle.model.proofs.TableLaws.{table-leaf, table-step, operandOf}
@@ -31,14 +32,11 @@ tie-all-classes T t (s ∷ ss) small c =
     (tie-all-classes (λ m. (m ≡ s) ⊎ T m) (tie t s) ss (λ m h. small m (inr h)) (tie-classes T t s c (small s (inl refl))))
 
 -- how a set came to be tied
-tied-by : (N : Night) (i m : ℕ) → TiedAt N i m
+pub tied-by : (N : Night) (i m : ℕ) → TiedAt N i m
     → Listed m (ties (nodeOf N i)) ⊎ (((usesLeft (nodeOf N i .kind) ≡ true) × TiedAt N (nodeOf N i .left) m) ⊎ ((usesRight (nodeOf N i .kind) ≡ true) × TiedAt N (nodeOf N i .right) m))
 tied-by N i m (here h) = inl h
 tied-by N i m (under-left u h) = inr (inl (u, h))
 tied-by N i m (under-right u h) = inr (inr (u, h))
-
-clash : true ≡ false → ⊥
-clash e = let z : _≡_ {A = ℕ} 0 1 = cc in omega arith
 
 -- what a node ties fits a word
 module _ (N : Night) (sound : Promised N) (i : ℕ) (l : i < N .header .nodes) where
@@ -79,15 +77,16 @@ module _ (N : Night) (sound : Promised N) (i : ℕ) (l : i < N .header .nodes) w
       go false false false p q r h = absurd h
 
   -- a leaf has tied nothing
-  leaf-classes : v .kind ≡ 0 → Classes (TiedAt N i) (tableOf N i .tied)
-  unfolding leafTable ties readTogether usesLeft usesRight anyOf
-  leaf-classes e = rw (table-leaf N i l e) (same-classes (λ m. ⊥) (TiedAt N i) _ (λ m h. absurd h) none untied-classes)
+  pub leaf-untied : v .kind ≡ 0 → (m : ℕ) → TiedAt N i m → ⊥
+  unfolding ties readTogether usesLeft usesRight anyOf
+  leaf-untied e m h = ⊎-elim no-ties (⊎-elim (λ w. clash (sym (w .0) ∙ rw e refl)) (λ w. clash (sym (w .0) ∙ rw e refl))) (tied-by N i m h)
     where
-      no-ties : (m : ℕ) → Listed m (ties v) → ⊥
-      no-ties m h = rw e at h
+      no-ties : Listed m (ties v) → ⊥
+      no-ties h = rw e at h
 
-      none : (m : ℕ) → TiedAt N i m → ⊥
-      none m h = ⊎-elim (no-ties m) (⊎-elim (λ w. clash (sym (w .0) ∙ rw e refl)) (λ w. clash (sym (w .0) ∙ rw e refl))) (tied-by N i m h)
+  leaf-classes : v .kind ≡ 0 → Classes (TiedAt N i) (tableOf N i .tied)
+  unfolding leafTable
+  leaf-classes e = rw (table-leaf N i l e) (same-classes (λ m. ⊥) (TiedAt N i) _ (λ m h. absurd h) (leaf-untied e) untied-classes)
 
   -- a step has tied what its operands have, and what it ties itself
   step-classes : (v .kind ≡ 0 → ⊥) → ((c : ℕ) → c < i → Classes (TiedAt N c) (tableOf N c .tied)) → Classes (TiedAt N i) (tableOf N i .tied)

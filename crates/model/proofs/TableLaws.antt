@@ -117,6 +117,10 @@ pub shown-joined : (t u : Table) → shown (joined t u) ≡ union (shown t) (sho
 unfolding joined
 shown-joined t u = union-across (t .clear) (u .clear) (t .sealed) (u .sealed)
 
+-- what a step has of its operands: their least views, joined where there are two
+abbrev pub both : Bool → ℕ → Table → Table → Table
+both b needed l r = if b then joined (leastView needed l) (leastView needed r) else leastView needed l
+
 -- the least views of node i's operands
 abbrev pub leftView : Night → ℕ → Table
 leftView N i = leastView (nodeOf N i .needed) (tableOf N (nodeOf N i .left))

@@ -50,7 +50,8 @@ module _ (N : Night) (sound : Promised N) where
   pub link-most : (k t s : ℕ) → k < n → t < N .header .subjects → s < N .header .subjects → nodeOf N k .size * linkPrice N t s ≤ 1000000000
   link-most k t s l p q = mul-le-mul (sound .node k l .size-most) (sound .link-price t s p q)
 
-  paid-most : (i s : ℕ) → i < n → s < N .header .subjects → paid N i s ≤ 1000000
+  -- what a subject is paid for a node
+  pub paid-most : (i s : ℕ) → i < n → s < N .header .subjects → paid N i s ≤ 1000000
   unfolding paid
   paid-most i s l h = go (eqb (nodeOf N i .kind) 0)
     where
@@ -69,7 +70,7 @@ module _ (N : Night) (sound : Promised N) where
 
   -- the total of an admissible choice
   module _ (d : Choice) (A : Admissible N d) where
-    d-there : (i : ℕ) → i < n → d i < N .header .subjects
+    pub d-there : (i : ℕ) → i < n → d i < N .header .subjects
     d-there i l = subject-there N sound i l (d i) (subject-in N sound i l d A)
 
     cost-le : (i : ℕ) → i < n → costAt N d i ≤ paid N i (d i) + children N (λ k. 1000000000) i

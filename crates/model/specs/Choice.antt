@@ -22,6 +22,10 @@ pub record Admissible (N : Night) (c : Choice) : Type 0 where
   pub leaf : (i : ℕ) → i < N .header .nodes → nodeOf N i .kind ≡ 0 → c i ≡ ownerOf N i
   pub step : (i : ℕ) → i < N .header .nodes → (nodeOf N i .kind ≡ 0 → ⊥) → In (c i) (candidateSet N i)
 
+-- every step has a candidate
+abbrev pub AllHave : Night → Type 0
+AllHave N = (i : ℕ) → i < N .header .nodes → (nodeOf N i .kind ≡ 0 → ⊥) → (p : ℕ) × In p (candidateSet N i)
+
 -- a child's size times the link price from its subject to its parent's
 unfoldable pub handed : Night → Choice → ℕ → ℕ → ℕ
 handed N c i k = nodeOf N k .size * linkPrice N (c k) (c i)

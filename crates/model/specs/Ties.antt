@@ -5,6 +5,7 @@ use lib.ListN.{getD, replicate}
 use Rattle.laws.specs.Choose.{if_then_else_}
 use Rattle.laws.specs.Upwards.{each}
 use Rattle.sets.specs.Sets.{In, member, union}
+use Rattle.model.specs.Linked.{Chain}
 
 -- nothing is tied
 abbrev pub untied : List ℕ
@@ -23,11 +24,6 @@ tie t s = each 64 (λ k. if member (gathered t s 64) k then gathered t s 64 else
 unfoldable pub merged : List ℕ → List ℕ → ℕ → List ℕ
 merged t u zero = t
 merged t u (suc n) = tie (merged t u n) (getD u n 0)
-
--- two attributes are linked by a chain of ties, T saying which sets were tied; one that is tied is linked with itself
-pub data Chain (T : ℕ → Type 0) (i : ℕ) : ℕ → Type 0 where
-  one : {j m : ℕ} → T m → In i m → In j m → Chain T i j
-  step : {j k m : ℕ} → Chain T i j → T m → In j m → In k m → Chain T i k
 
 -- the tied sets are just what the chains of ties link, and every tied set fits 64 bits
 pub record Classes (T : ℕ → Type 0) (t : List ℕ) : Type 0 where

@@ -15,7 +15,7 @@ use Rattle.sets.proofs.Members.{in-union, in-minus, in-none}
 use Rattle.sets.proofs.Words.{in-single}
 use Rattle.night.specs.declared.Node.{Node}
 use Rattle.night.specs.Night.{Night, nodeOf}
-use Rattle.night.specs.Kinds.{usesLeft, usesRight, usesX, usesSet, attribute, visibleAfter, visibleStep, visibles, visible}
+use Rattle.night.specs.Kinds.{usesLeft, usesRight, usesX, usesSet, attribute, reads, visibleAfter, visibleStep, visibles, visible}
 use Rattle.night.specs.Promised.{Promised}
 
 -- where an attribute that is visible after a node comes from
@@ -27,7 +27,7 @@ pub data From (v : Node) (left right k : ℕ) : Type 0 where
   of-x : (v .kind ≡ 0 → ⊥) → usesX (v .kind) ≡ true → k ≡ v .x → From v left right k
 
 -- a choice by the kind
-pick : (v : Node) (n a b k : ℕ) → In k (if eqb (v .kind) n then a else b) → ((v .kind ≡ n) × In k a) ⊎ In k b
+pub pick : (v : Node) (n a b k : ℕ) → In k (if eqb (v .kind) n then a else b) → ((v .kind ≡ n) × In k a) ⊎ In k b
 pick v n a b k h = go (eqb (v .kind) n) refl h
   where
     go : (t : Bool) → eqb (v .kind) n ≡ t → In k (if t then a else b) → ((v .kind ≡ n) × In k a) ⊎ In k b
@@ -99,3 +99,91 @@ module _ (N : Night) (sound : Promised N) where
   -- what is visible is an attribute of the night
   pub visible-below : (i k : ℕ) → i < n → In k (visible N i) → k < N .header .attributes
   visible-below i k l h = all-below (suc i) i k (omega arith) l h
+
+-- who reads is a step
+pub reads-step : (v : Node) (k : ℕ) → In k (reads v) → v .kind ≡ 0 → ⊥
+unfolding reads
+reads-step v k h e = in-none k (rw e at h)
+
+-- it is so of a step's left operand, or of the right one that it has
+abbrev pub OfOperand : Night → ℕ → (ℕ → Type 0) → Type 0
+OfOperand N i Q = Q (nodeOf N i .left) ⊎ ((usesRight (nodeOf N i .kind) ≡ true) × Q (nodeOf N i .right))
+
+-- where there is no right operand, it doesn't matter what is visible in it
+left-alone : (v : Node) (left right other : ℕ) → usesRight (v .kind) ≡ false → visibleAfter v left right ≡ visibleAfter v left other
+unfolding visibleAfter usesRight anyOf
+left-alone v left right other e = go (eqb (v .kind) 4) (eqb (v .kind) 5) e
+  where
+    rest : ℕ
+    rest =
+        if eqb (v .kind) 6 then union (v .set) (attribute (v .x)) else
+        if eqb (v .kind) 7 then v .set else
+        if eqb (v .kind) 8 then union (minus left (v .set)) (attribute (v .x)) else
+        0
+
+    start : ℕ → ℕ
+    start more = if eqb (v .kind) 0 then v .set else if eqb (v .kind) 1 then v .set else if eqb (v .kind) 2 then left else if eqb (v .kind) 3 then left else more
+
+    go : (a b : Bool) → (if a then true else if b then true else false) ≡ false
+        → start (if a then union left right else if b then union left right else rest) ≡ start (if a then union left other else if b then union left other else rest)
+    go true b e = absurd (let z : _≡_ {A = ℕ} 0 1 = cc in omega arith)
+    go false true e = absurd (let z : _≡_ {A = ℕ} 0 1 = cc in omega arith)
+    go false false e = refl
+
+module _ (N : Night) (sound : Promised N) (i : ℕ) (l : i < N .header .nodes) where
+  abbrev v : Node
+  v = nodeOf N i
+
+  -- what is visible after a leaf is its set
+  pub visible-leaf : v .kind ≡ 0 → visible N i ≡ v .set
+  unfolding visibles visibleStep visibleAfter
+  visible-leaf e = upwards-at (visibleStep N) 0 i (N .header .nodes) l ∙ rw e refl
+
+  -- what is visible after a step, from what is visible after its operands
+  pub visible-made : (v .kind ≡ 0 → ⊥) → (right : ℕ) → (usesRight (v .kind) ≡ true → right ≡ visible N (v .right)) → visible N i ≡ visibleAfter v (visible N (v .left)) right
+  unfolding visibles visibleStep
+  visible-made s right f =
+      upwards-at (visibleStep N) 0 i (N .header .nodes) l
+      ∙ rw (operand-visible N sound i (v .left) (sound .node i l .left-lower (step-uses-left (v .kind) s)) (omega arith)) (go (usesRight (v .kind)) refl)
+    where
+      go : (b : Bool) → usesRight (v .kind) ≡ b → visibleAfter v (visible N (v .left)) (getD (upwards (visibleStep N) i) (v .right) 0) ≡ visibleAfter v (visible N (v .left)) right
+      go true u = rw (operand-visible N sound i (v .right) (sound .node i l .right-lower u) (omega arith), f u) refl
+      go false u = left-alone v (visible N (v .left)) _ right u
+
+  module _ (s : v .kind ≡ 0 → ⊥) where
+    -- what is so of one operand, where it follows at every lower node
+    pub operand-map : {Q R : ℕ → Type 0} → ((c : ℕ) → c < i → Q c → R c) → OfOperand N i Q → OfOperand N i R
+    operand-map f =
+        ⊎-elim (λ h. inl (f (v .left) (sound .node i l .left-lower (step-uses-left (v .kind) s)) h)) (λ h. inr (h .0, f (v .right) (sound .node i l .right-lower (h .0)) (h .1)))
+
+    -- what is visible after a step is visible in one of its operands
+    pub visible-operand : (k : ℕ) → In k (visible N i) → OfOperand N i (λ c. In k (visible N c))
+    visible-operand k h = go (visible-step N sound i k l h)
+      where
+        go : From v (visible N (v .left)) (visible N (v .right)) k → OfOperand N i (λ c. In k (visible N c))
+        go (leaf z q) = absurd (s z)
+        go (kept s u q) = inl (sound .node i l .set-visible s u k q)
+        go (of-left s q) = inl q
+        go (of-right u q) = inr (u, q)
+        go (of-x s u q) = inl (rw q (sound .node i l .x-visible s u))
+
+    -- and so is what it reads
+    pub reads-operand : (k : ℕ) → In k (reads v) → OfOperand N i (λ c. In k (visible N c))
+    unfolding reads usesSet usesRight usesX anyOf
+    reads-operand k h =
+        ⊎-elim (λ w. only (rw (w .0) refl) (w .1)) (λ h.
+        ⊎-elim (λ w. pair (rw (w .0) refl) (λ q. inl (rw q (sound .node i l .y-visible-left (w .0)))) (w .1)) (λ h.
+        ⊎-elim (λ w. pair (rw (w .0) refl) (λ q. inr (rw (w .0) refl, rw q (sound .node i l .y-visible-right (w .0)))) (w .1)) (λ h.
+        ⊎-elim (λ w. ⊎-elim (set (rw (w .0) refl)) (only (rw (w .0) refl)) (in-union (v .set) (attribute (v .x)) k .0 (w .1))) (λ h.
+        ⊎-elim (λ w. set (rw (w .0) refl) (w .1)) (λ h.
+        ⊎-elim (λ w. set (rw (w .0) refl) (w .1)) (λ h. absurd (in-none k h))
+        (pick v 8 _ _ k h)) (pick v 7 _ _ k h)) (pick v 6 _ _ k h)) (pick v 5 _ _ k h)) (pick v 3 _ _ k h)) (pick v 2 _ _ k h)
+      where
+        only : usesX (v .kind) ≡ true → In k (attribute (v .x)) → OfOperand N i (λ c. In k (visible N c))
+        only u q = inl (rw (in-single 64 k (v .x) .0 q .0) (sound .node i l .x-visible s u))
+
+        set : usesSet (v .kind) ≡ true → In k (v .set) → OfOperand N i (λ c. In k (visible N c))
+        set u q = inl (sound .node i l .set-visible s u k q)
+
+        pair : usesX (v .kind) ≡ true → (k ≡ v .y → OfOperand N i (λ c. In k (visible N c))) → In k (union (attribute (v .x)) (attribute (v .y))) → OfOperand N i (λ c. In k (visible N c))
+        pair u f q = ⊎-elim (only u) (λ r. f (in-single 64 k (v .y) .0 r .0)) (in-union (attribute (v .x)) (attribute (v .y)) k .0 q)

@@ -1,6 +1,4 @@
 // The entries of the planner. Each takes any bytes, asks nothing of its caller, and answers or refuses with a number and a place.
-mod eligible;
-
 use reading::Checked;
 ghost use mathlib.Core.Path.{_≡_};
 ghost use Rattle.planning.specs.Answers.{candidatesSaid, candidatesOf, passedUp};

@@ -1,14 +1,14 @@
 -- Sets by their members.
 use Prim.Native.Nat.{ℕ, zero, suc, _*_, _-_, _/_, _%_, _^_, _<_, _≤_, min, max}
 use mathlib.Core.Path.{_≡_, refl, sym, ap, _∙_}
-use mathlib.Core.Bool.{true, false}
+use mathlib.Core.Bool.{Bool, true, false}
 use mathlib.Core.Logic.{_⊎_, inl, inr, ⊎-elim, _↔_}
 use native.Mathlib.Nat.{zero-div, lt-of-lt-of-le, div-one, pow-suc, div-eq-of-lt, eq-or-lt-of-le, le-of-suc-le-suc}
 use native.Mathlib.Numerals.{one-add}
 use native.Mathlib.Omega.{arith}
 use lib.Pow.{shr-shr, pow-mono}
 use lib.Bits.{bitAnd, and-shr, or-shr, and-step, or-step, and-le-l}
-use borrow.Author.Tests.{eqb-true, eqb-false, eq-eqb}
+use borrow.Author.Tests.{eqb-true, eqb-false, eq-eqb, ne-eqb}
 use Rattle.sets.specs.Sets.{bit, In, member, union, meet, minus, Within, within, Apart, apart, unions}
 
 -- digits
@@ -58,7 +58,8 @@ same-below (suc n) a b ha hb e =
     let h1 : a / 2 ≡ b / 2 = same-below n (a / 2) (b / 2) (omega arith) (omega arith) (λ k l. sym (bit-suc a k) ∙ e (suc k) (omega arith) ∙ bit-suc b k) in
     omega arith
 
-below-pow : (n : ℕ) → n < 2 ^ n
+-- a set is below 2 to itself
+pub below-pow : (n : ℕ) → n < 2 ^ n
 below-pow zero = omega arith
 below-pow (suc n) = rw pow-suc (omega (arith, below-pow n))
 
@@ -85,6 +86,18 @@ in-member S k e = eq-eqb (bit S k) 1 e
 pub not-member : (S k : ℕ) → member S k ≡ false → In k S → ⊥
 unfolding member
 not-member S k e = eqb-false (bit S k) 1 e
+
+pub out-member : (S k : ℕ) → (In k S → ⊥) → member S k ≡ false
+unfolding member
+out-member S k h = ne-eqb (bit S k) 1 h
+
+-- a number is a member or not
+pub in-or-not : (k S : ℕ) → In k S ⊎ (In k S → ⊥)
+in-or-not k S = go (member S k) refl
+  where
+    go : (b : Bool) → member S k ≡ b → In k S ⊎ (In k S → ⊥)
+    go true e = inl (member-in S k e)
+    go false e = inr (not-member S k e)
 
 -- members of the sets that are made
 pub in-union : (a b k : ℕ) → In k (union a b) ↔ (In k a ⊎ In k b)

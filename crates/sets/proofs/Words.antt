@@ -2,17 +2,17 @@
 use Prim.Native.Nat.{ℕ, zero, suc, _+_, _*_, _-_, _/_, _%_, _^_, _<_, _≤_, min}
 use mathlib.Core.Path.{_≡_, refl, sym, ap, _∙_}
 use mathlib.Core.Bool.{false}
-use mathlib.Core.Logic.{_↔_}
-use native.Mathlib.Nat.{div-self, pow-suc, mod-lt, mod-eq-of-lt, mul-mod-left, one-mul, lt-of-not-le, lt-of-lt-of-le}
+use mathlib.Core.Logic.{⊎-elim, _↔_}
+use native.Mathlib.Nat.{div-self, pow-suc, mod-lt, mod-eq-of-lt, mul-mod-left, one-mul, lt-of-not-le, lt-of-lt-of-le, eq-or-lt-of-le, le-of-suc-le-suc}
 use native.Mathlib.Numerals.{add-one}
 use native.Mathlib.Omega.{arith}
 use lib.Dec.{eqb}
 use lib.Pow.{pow-pos, pow-lt, pow-mono, pow-add, ones-lt}
 use lib.Bits.{or-lt, and-le-l}
 use lib.Count.{trailingZeros, under, trailing-of-zero, ones-step, ones-le}
-use borrow.Author.Tests.{ne-eqb}
-use Rattle.sets.specs.Sets.{bit, In, member, union, meet, minus, below, single, lowest, size, countBelow, unions}
-use Rattle.sets.proofs.Members.{same-members, in-meet, bit-zero, bit-suc, bit-none, bit-beyond, in-none}
+use borrow.Author.Tests.{ne-eqb, eqb-false}
+use Rattle.sets.specs.Sets.{bit, In, member, union, meet, minus, Within, within, apart, below, single, lowest, size, countBelow, unions}
+use Rattle.sets.proofs.Members.{same-below, same-members, below-pow, in-or-not, in-meet, in-minus, bit-lt, bit-zero, bit-suc, bit-none, bit-beyond, in-none}
 
 -- the digit that a shift brings to the end, and none past the word
 pub member-shift : (S k : ℕ) → eqb (S / 2 ^ k % 2) 1 ≡ member S k
@@ -121,6 +121,25 @@ pub lowest-none : (w : ℕ) → lowest w 0 ≡ w
 unfolding lowest
 lowest-none w = trailing-of-zero w
 
+-- a set that is not empty has a member; so has one that does not lie in another, outside it, and one that meets another, in it
+pub some-member : (S : ℕ) → (S ≡ 0 → ⊥) → (k : ℕ) × In k S
+some-member S h = (lowest S S, lowest-in S S (below-pow S) (lt-of-not-le (λ g. h (omega arith))))
+
+pub not-within : (a b : ℕ) → within a b ≡ false → (k : ℕ) × In k a × (In k b → ⊥)
+unfolding within
+not-within a b e =
+    let w = some-member (minus a b) (λ z. eqb-false (meet a b) a e (same-members (meet a b) a (λ k h. in-meet a b k .0 h .0) (λ k h. in-meet a b k .1 (h, inside z k h)))) in
+    (w .0, in-minus a b (w .0) .0 (w .1) .0, in-minus a b (w .0) .0 (w .1) .1)
+  where
+    inside : minus a b ≡ 0 → (k : ℕ) → In k a → In k b
+    inside z k h = ⊎-elim (λ q. q) (λ q. absurd (in-none k (rw z at (in-minus a b k .1 (h, q))))) (in-or-not k b)
+
+pub not-apart : (a b : ℕ) → apart a b ≡ false → (k : ℕ) × In k a × In k b
+unfolding apart
+not-apart a b e =
+    let w = some-member (meet a b) (eqb-false (meet a b) 0 e) in
+    (w .0, in-meet a b (w .0) .0 (w .1) .0, in-meet a b (w .0) .0 (w .1) .1)
+
 -- the size is the number of members
 count-step : (n S : ℕ) → countBelow (suc n) S ≡ S % 2 + countBelow n (S / 2)
 unfolding countBelow
@@ -131,6 +150,36 @@ pub size-counts : (n S : ℕ) → S < 2 ^ n → size S ≡ countBelow n S
 unfolding size countBelow
 size-counts zero S h = omega (arith, ones-le 0 S h)
 size-counts (suc n) S h = omega (arith, ones-step S, size-counts n (S / 2) (omega (arith, pow-suc 2 n)), count-step n S)
+
+-- a set within another has no more members, and is the same where it has as many
+pub count-most : (n S : ℕ) → countBelow n S ≤ n
+unfolding countBelow
+count-most zero S = omega arith
+count-most (suc n) S = omega (arith, count-most n S, bit-lt S n)
+
+bit-le : (a b k : ℕ) → Within a b → bit a k ≤ bit b k
+bit-le a b k f = go (bit a k) refl (bit-lt a k)
+  where
+    go : (x : ℕ) → bit a k ≡ x → x < 2 → x ≤ bit b k
+    go zero e l = omega arith
+    go (suc x) e l = omega (arith, f k (omega arith))
+
+count-le : (n a b : ℕ) → Within a b → countBelow n a ≤ countBelow n b
+unfolding countBelow
+count-le zero a b f = omega arith
+count-le (suc n) a b f = omega (arith, count-le n a b f, bit-le a b n f)
+
+count-tight : (n a b : ℕ) → Within a b → countBelow n b ≤ countBelow n a → (k : ℕ) → k < n → bit a k ≡ bit b k
+unfolding countBelow
+count-tight zero a b f h k l = absurd (omega arith)
+count-tight (suc n) a b f h k l =
+    ⊎-elim
+    (λ q. rw q (omega (arith, count-le n a b f, bit-le a b n f)))
+    (count-tight n a b f (omega (arith, bit-le a b n f)) k)
+    (eq-or-lt-of-le (le-of-suc-le-suc l))
+
+pub count-grows : (w a b : ℕ) → a < 2 ^ w → b < 2 ^ w → Within a b → (a ≡ b → ⊥) → countBelow w a < countBelow w b
+count-grows w a b ha hb f differ = lt-of-not-le (λ g. differ (same-below w a b ha hb (count-tight w a b f g)))
 
 -- within the word
 pub union-lt : (w a b : ℕ) → a < 2 ^ w → b < 2 ^ w → union a b < 2 ^ w

@@ -1,0 +1,185 @@
+-- The answers of `cheapest_choice` and `offered_choice` from what the code finds, and that they leave no choice.
+use Prim.Native.Nat.{ℕ, _-_, _<_, _≤_}
+use mathlib.Core.Path.{_≡_, refl, sym, ap, _∙_}
+use mathlib.Core.Bool.{Bool, true, false}
+use mathlib.Core.List.{List, _++_}
+use native.Mathlib.Nat.{lt-of-not-le}
+use native.Mathlib.Omega.{arith}
+use lib.Dec.{ltb}
+use lib.ListN.{length, getD, set, replicate}
+use lib.Seq.{ext-getD}
+use borrow.Author.Tests.{lt-ltb, le-ltb, ltb-true, ltb-false, eq-eqb, ne-eqb, eqb-true, eqb-false, not-false}
+use Rattle.laws.specs.First.{first}
+use Rattle.laws.specs.Trials.{Says, answers, refuses, verdict}
+use Rattle.laws.proofs.First.{first-below}
+use Rattle.laws.proofs.Trials.{never, passed-then, refused-then, refused-alike, accepted-alike, rows-pass, rows-stop}
+use Rattle.laws.proofs.Cases.{ne-bad, eq-fine}
+use Rattle.sets.specs.Sets.{lowest}
+use Rattle.sets.proofs.Members.{member-in}
+use Rattle.sets.proofs.Words.{members-lt, lowest-in}
+use Rattle.night.specs.declared.Header.{Header}
+use Rattle.night.specs.Night.{Night, nodeOf}
+use Rattle.night.specs.Promised.{Promised}
+use Rattle.layout.specs.Layout.{headerOf, nightIn, nightOf}
+use Rattle.model.specs.Candidates.{candidateSet}
+use Rattle.model.specs.Choice.{ownerOf, Admissible, AllHave, total, steps}
+use Rattle.model.specs.Dp.{costRows, bestLast, chosenLast, giveDown, chosen}
+use Rattle.model.specs.Refusals.{withoutCandidate, candidateTrials, stepsTrials, offerBad, offerTrials}
+use Rattle.model.proofs.May.{set-exactly}
+use Rattle.model.proofs.Once.{least-once}
+use Rattle.model.proofs.Dp.{dp-least, chosen-total}
+use Rattle.reading.specs.Trials.{trials}
+use Rattle.reading.specs.Answers.{checkOf}
+use Rattle.reading.proofs.Opened.{accepted-header}
+use Rattle.reading.proofs.Promises.{accepted-promises}
+use Rattle.choosing.specs.Answers.{cheapestTrials, CheapestFor, ChoiceSays, ChoiceOnce, offeredTrials, offeredOf, OfferedOnce}
+use Rattle.choosing.specs.Held.{Given}
+use Rattle.choosing.specs.declared.Cheapest.the-variants.{Found, Refused}
+use Rattle.choosing.specs.declared.Offered.the-variants.{Costs, Refused as NotCosted}
+
+-- a search that found none
+pub none-below : (p : ℕ → Bool) (i n : ℕ) → i ≡ first p n → n ≤ i → (k : ℕ) → k < n → p k ≡ false
+none-below p i n q h k l = first-below p n k (omega arith)
+
+-- no step is without candidate
+pub all-have : (N : Night) → Promised N → ((k : ℕ) → k < N .header .nodes → withoutCandidate N k ≡ false) → AllHave N
+unfolding withoutCandidate
+all-have N sound h i l step =
+    let some : candidateSet N i ≡ 0 → ⊥ = eqb-false (candidateSet N i) 0 (rw (ne-eqb (nodeOf N i .kind) 0 step) at (h i l)) in
+    (lowest 16 (candidateSet N i), lowest-in 16 (candidateSet N i) (members-lt 16 (candidateSet N i) (λ p q. omega (arith, set-exactly N i p (sound .counts .subjects-most) .0 q .0, sound .counts .subjects-most))) (lt-of-not-le (λ q. some (omega arith))))
+
+-- the subjects given down from the last node are the cheapest choice
+pub least-made : (N : Night) → Promised N → AllHave N → (c : List ℕ) (t : ℕ)
+    → c ≡ giveDown N (costRows N) (N .header .nodes) (set (replicate 64 0) (N .header .nodes - 1) (bestLast N (costRows N) .lowest))
+    → Given N c → t ≡ bestLast N (costRows N) .least → CheapestFor N c t (steps N)
+unfolding chosen chosenLast
+least-made N sound some c t e G q =
+    record {
+      least = rw e (dp-least N sound some);
+      past = G .past;
+      whole = G .long;
+      its-total = q ∙ rw e (sym (chosen-total N sound some));
+      its-steps = refl;
+    }
+
+-- what the trials of a choice say
+module _ (N : Night) where
+  pub without-refused : (i : ℕ) → i ≡ first (withoutCandidate N) (N .header .nodes) → i < N .header .nodes
+      → verdict (candidateTrials N ++ stepsTrials N) (tt {0}) ≡ refuses 12 i
+  unfolding candidateTrials
+  without-refused i q l =
+      rw q (refused-then (candidateTrials N) (stepsTrials N) (tt {0}) (tt {0}) 12 _ (rows-stop (withoutCandidate N) 12 (N .header .nodes) (rw q at l)))
+
+  module _ (some : (k : ℕ) → k < N .header .nodes → withoutCandidate N k ≡ false) where
+    candidates-pass : verdict (candidateTrials N) (tt {0}) ≡ answers tt
+    unfolding candidateTrials
+    candidates-pass = rows-pass (withoutCandidate N) 12 (N .header .nodes) some
+
+    pub steps-refused : N .header .steps < steps N → verdict (candidateTrials N ++ stepsTrials N) (tt {0}) ≡ refuses 13 0
+    unfolding verdict stepsTrials
+    steps-refused l = passed-then (candidateTrials N) (stepsTrials N) (tt {0}) (tt {0}) candidates-pass ∙ rw (lt-ltb (N .header .steps) (steps N) l) refl
+
+    pub choice-passes : steps N ≤ N .header .steps → verdict (candidateTrials N ++ stepsTrials N) (tt {0}) ≡ answers tt
+    unfolding verdict stepsTrials
+    choice-passes l = passed-then (candidateTrials N) (stepsTrials N) (tt {0}) (tt {0}) candidates-pass ∙ rw (le-ltb (N .header .steps) (steps N) l) refl
+
+-- and those of an offer
+module _ (N : Night) (offer : List ℕ) where
+  pub length-refused : (length offer ≡ N .header .nodes → ⊥) → verdict (offerTrials N offer) (tt {0}) ≡ refuses 14 (N .header .nodes)
+  unfolding verdict offerTrials
+  length-refused h = rw (ne-bad (length offer) (N .header .nodes) h) refl
+
+  module _ (long : length offer ≡ N .header .nodes) where
+    pub node-refused : (i : ℕ) → i ≡ first (offerBad N offer) (N .header .nodes) → i < N .header .nodes → verdict (offerTrials N offer) (tt {0}) ≡ refuses 14 i
+    unfolding verdict offerTrials
+    node-refused i q l = rw (eq-fine (length offer) (N .header .nodes) long, q) (rows-stop (offerBad N offer) 14 (N .header .nodes) (rw q at l))
+
+    pub offer-passes : ((k : ℕ) → k < N .header .nodes → offerBad N offer k ≡ false) → verdict (offerTrials N offer) (tt {0}) ≡ answers tt
+    unfolding verdict offerTrials
+    offer-passes h = rw (eq-fine (length offer) (N .header .nodes) long) (rows-pass (offerBad N offer) 14 (N .header .nodes) h)
+
+  -- an offer that nothing refuses is a choice from the candidates
+  pub offer-admissible : ((k : ℕ) → k < N .header .nodes → offerBad N offer k ≡ false) → Admissible N (λ i. getD offer i 0)
+  unfolding offerBad
+  offer-admissible h =
+      record {
+        leaf = λ i l e. eqb-true (getD offer i 0) (ownerOf N i) (not-false _ (rw (eq-eqb (nodeOf N i .kind) 0 e) at (h i l)));
+        step = λ i l e. member-in (candidateSet N i) (getD offer i 0) (not-false _ (rw (ne-eqb (nodeOf N i .kind) 0 e) at (h i l)));
+      }
+
+module _ (s : List ℕ) where
+  -- reading refuses
+  pub choice-unread : (n p : ℕ) → checkOf s ≡ refuses n p → ChoiceSays s (replicate 64 0) (Refused n p)
+  unfolding checkOf cheapestTrials
+  choice-unread n p e = (refused-then (trials s) _ (headerOf s) (tt {0}) n p e, refl)
+
+  pub offer-unread : (offer : List ℕ) (n p : ℕ) → checkOf s ≡ refuses n p → offeredOf s offer ≡ refuses n p
+  unfolding checkOf offeredOf offeredTrials
+  offer-unread offer n p e = refused-then (trials s) _ (headerOf s) _ n p e
+
+  module _ (h : Header) (e : checkOf s ≡ answers h) where
+    -- reading accepts: its facts, over the header that it answers with
+    same : nightOf s ≡ nightIn s h
+    same = ap (λ (k : Header). nightIn s k) (accepted-header s h e)
+
+    pub sound-night : Promised (nightIn s h)
+    sound-night = rw same at (accepted-promises s h e)
+
+    read : verdict (trials s) (tt {0}) ≡ answers tt
+    unfolding checkOf
+    read = accepted-alike (trials s) (headerOf s) h tt e
+
+    choice-verdict : (v : Says (Unit {0})) → verdict (candidateTrials (nightIn s h) ++ stepsTrials (nightIn s h)) (tt {0}) ≡ v → verdict (cheapestTrials s) (tt {0}) ≡ v
+    unfolding cheapestTrials
+    choice-verdict v q =
+        passed-then (trials s) _ (tt {0}) (tt {0}) read ∙ ap (λ (M : Night). verdict (candidateTrials M ++ stepsTrials M) (tt {0})) same ∙ q
+
+    pub choice-refused : (n p : ℕ) → verdict (candidateTrials (nightIn s h) ++ stepsTrials (nightIn s h)) (tt {0}) ≡ refuses n p → ChoiceSays s (replicate 64 0) (Refused n p)
+    choice-refused n p q = (choice-verdict (refuses n p) q, refl)
+
+    pub choice-found : (c : List ℕ) (t k : ℕ) → verdict (candidateTrials (nightIn s h) ++ stepsTrials (nightIn s h)) (tt {0}) ≡ answers tt
+        → CheapestFor (nightIn s h) c t k → ChoiceSays s c (Found t k)
+    choice-found c t k q x = (choice-verdict (answers tt) q, rw same x)
+
+    pub offer-refused : (offer : List ℕ) (n p : ℕ) → verdict (offerTrials (nightIn s h) offer) (tt {0}) ≡ refuses n p → offeredOf s offer ≡ refuses n p
+    unfolding offeredOf offeredTrials
+    offer-refused offer n p q =
+        passed-then (trials s) _ (tt {0}) _ read ∙ refused-alike (offerTrials (nightOf s) offer) (tt {0}) _ n p (ap (λ (M : Night). verdict (offerTrials M offer) (tt {0})) same ∙ q)
+
+    pub offer-costs : (offer : List ℕ) → verdict (offerTrials (nightIn s h) offer) (tt {0}) ≡ answers tt → offeredOf s offer ≡ answers (total (nightIn s h) (λ i. getD offer i 0))
+    unfolding offeredOf offeredTrials
+    offer-costs offer q =
+        passed-then (trials s) _ (tt {0}) _ read
+        ∙ accepted-alike (offerTrials (nightOf s) offer) (tt {0}) tt _ (ap (λ (M : Night). verdict (offerTrials M offer) (tt {0})) same ∙ q)
+        ∙ ap (λ (M : Night). answers (total M (λ i. getD offer i 0))) same
+
+-- two cheapest choices, 0 past the last node, are the same list
+same-subjects : (N : Night) (xs ys : List ℕ) (t u k m : ℕ) → CheapestFor N xs t k → CheapestFor N ys u m → xs ≡ ys
+same-subjects N xs ys t u k m x y = ext-getD 0 xs ys (x .whole ∙ sym (y .whole)) (λ j l. go j (ltb j (N .header .nodes)) refl)
+  where
+    go : (j : ℕ) (b : Bool) → ltb j (N .header .nodes) ≡ b → getD xs j 0 ≡ getD ys j 0
+    go j true e = least-once N _ _ (x .least) (y .least) j (ltb-true j (N .header .nodes) e)
+    go j false e = x .past j (ltb-false j (N .header .nodes) e) ∙ sym (y .past j (ltb-false j (N .header .nodes) e))
+
+pub choice-once : ChoiceOnce
+choice-once s xs ys (Found t k) (Found u m) x y =
+    let list : xs ≡ ys = same-subjects (nightOf s) xs ys t u k m (x .1) (y .1) in
+    let totals : t ≡ u = x .1 .its-total ∙ ap (λ (zs : List ℕ). total (nightOf s) (λ i. getD zs i 0)) list ∙ sym (y .1 .its-total) in
+    let counts : k ≡ m = x .1 .its-steps ∙ sym (y .1 .its-steps) in
+    (rw (totals, counts) refl, list)
+choice-once s xs ys (Found t k) (Refused n p) x y = absurd (never tt n p (sym (y .0) ∙ x .0))
+choice-once s xs ys (Refused n p) (Found t k) x y = absurd (never tt n p (sym (x .0) ∙ y .0))
+choice-once s xs ys (Refused n p) (Refused m q) x y =
+    let both : _≡_ {A = Says (Unit {0})} (refuses n p) (refuses m q) = sym (x .0) ∙ y .0 in
+    let number : n ≡ m = cc in
+    let place : p ≡ q = cc in
+    (rw (number, place) refl, x .1 ∙ sym (y .1))
+
+pub offered-once : OfferedOnce
+offered-once (Costs a) (Costs b) e = let same : a ≡ b = cc in ap Costs same
+offered-once (Costs a) (NotCosted n p) e = absurd (never a n p (sym e))
+offered-once (NotCosted n p) (Costs b) e = absurd (never b n p e)
+offered-once (NotCosted n p) (NotCosted m q) e =
+    let number : n ≡ m = cc in
+    let place : p ≡ q = cc in
+    rw (number, place) refl

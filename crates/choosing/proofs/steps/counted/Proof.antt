@@ -1,0 +1,19 @@
+-- A set of 16 bits has at most 16 members.
+use native.Mathlib.Omega.{arith}
+use borrow.Author.Needs.{needs}
+use Rattle.laws.proofs.Cases.{cases}
+use Rattle.choosing.proofs.Sets.{size-most}
+use Rattle.choosing.proofs.steps.counted.Statement.{statement}
+use Rattle.choosing.proofs.steps.counted.Tie as tie
+
+returns : tie.Need-returns
+returns c = (search cases depth 20, omega arith)
+
+size-requires : tie.Need-size-requires
+size-requires c κs = search needs
+
+returns-2 : tie.Need-returns-2
+returns-2 c = (rw (← c .size .ensures) (search cases depth 20), rw (c .size .ensures) (size-most 16 (c .before .before .args .among) (c .before .before .fits .among .fits)))
+
+pub counted-spec : {M : Type 1} → statement M
+counted-spec = tie.close (tie.spec returns size-requires returns-2)

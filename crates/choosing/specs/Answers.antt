@@ -1,0 +1,69 @@
+-- What each case of an answer says: document 01's number and place, or the values.
+use Prim.Native.Nat.{ℕ, _≤_}
+use mathlib.Core.Path.{_≡_}
+use mathlib.Core.List.{List, _++_}
+use lib.ListN.{length, getD, replicate}
+use Rattle.laws.specs.Trials.{Trial, Says, answers, refuses, verdict}
+use Rattle.night.specs.Night.{Night}
+use Rattle.layout.specs.Layout.{nightOf}
+use Rattle.model.specs.Choice.{Least, total, steps}
+use Rattle.model.specs.Refusals.{candidateTrials, stepsTrials, offerTrials}
+use Rattle.reading.specs.Trials.{trials}
+use Rattle.reading.specs.declared.Checked.{Checked}
+use Rattle.reading.specs.declared.Checked.the-variants.{Accepted, Refused}
+use Rattle.choosing.specs.declared.Chosen.{Chosen}
+use Rattle.choosing.specs.declared.Cheapest.{Cheapest}
+use Rattle.choosing.specs.declared.Cheapest.the-variants.{Found, Refused as NotFound}
+use Rattle.choosing.specs.declared.Offered.{Offered}
+use Rattle.choosing.specs.declared.Offered.the-variants.{Costs, Refused as NotCosted}
+
+-- reading's trials, then 12, then 13
+unfoldable pub cheapestTrials : List ℕ → List Trial
+cheapestTrials s = trials s ++ (candidateTrials (nightOf s) ++ stepsTrials (nightOf s))
+
+-- the right values: the cheapest choice, with 0 past the last node; its total; the steps
+pub record CheapestFor (N : Night) (subjects : List ℕ) (total′ steps′ : ℕ) : Type 0 where
+  pub least : Least N (λ i. getD subjects i 0)
+  pub past : (i : ℕ) → N .header .nodes ≤ i → getD subjects i 0 ≡ 0
+  pub whole : length subjects ≡ 64
+  pub its-total : total′ ≡ total N (λ i. getD subjects i 0)
+  pub its-steps : steps′ ≡ steps N
+
+-- `cheapest_choice`: answered where no trial fails, with the right values; or refused as the trials refuse, and then no subject is given
+abbrev pub ChoiceSays : List ℕ → List ℕ → Cheapest → Type 0
+ChoiceSays s subjects (Found total steps) = (verdict (cheapestTrials s) (tt {0}) ≡ answers tt) × CheapestFor (nightOf s) subjects total steps
+ChoiceSays s subjects (NotFound n p) = (verdict (cheapestTrials s) (tt {0}) ≡ refuses n p) × (subjects ≡ replicate 64 0)
+
+-- a refusal with its number and place, and no subject
+abbrev pub noChoice : ℕ → ℕ → Chosen
+noChoice n p = record { said = NotFound n p; subjects = replicate 64 0 }
+
+-- reading's refusal as this answer
+abbrev pub notChosen : Checked → Chosen
+notChosen (Accepted h) = noChoice 0 0
+notChosen (Refused n p) = noChoice n p
+
+-- any two answers that it may give are the same
+abbrev pub ChoiceOnce : Type 0
+ChoiceOnce = (s xs ys : List ℕ) (a b : Cheapest) → ChoiceSays s xs a → ChoiceSays s ys b → (a ≡ b) × (xs ≡ ys)
+
+-- `offered_choice`: the total of the choice, or refused with number and place
+abbrev pub offeredSaid : Offered → Says ℕ
+offeredSaid (Costs total) = answers total
+offeredSaid (NotCosted n p) = refuses n p
+
+-- reading's refusal as this answer
+abbrev pub notCosted : Checked → Offered
+notCosted (Accepted h) = Costs 0
+notCosted (Refused n p) = NotCosted n p
+
+-- reading's trials, then 14; the total of the offered choice
+unfoldable pub offeredTrials : List ℕ → List ℕ → List Trial
+offeredTrials s offer = trials s ++ offerTrials (nightOf s) offer
+
+unfoldable pub offeredOf : List ℕ → List ℕ → Says ℕ
+offeredOf s offer = verdict (offeredTrials s offer) (total (nightOf s) (λ i. getD offer i 0))
+
+-- any two answers to an offer that say the same are the same
+abbrev pub OfferedOnce : Type 0
+OfferedOnce = (a b : Offered) → offeredSaid a ≡ offeredSaid b → a ≡ b

@@ -1,0 +1,3 @@
+-- What the choice answers, and what its code holds.
+pub mod Answers
+pub mod Held

@@ -1,0 +1,110 @@
+// The cheapest choice of subjects, and what an offered choice costs.
+mod costs;
+mod down;
+mod offer;
+mod rows;
+mod steps;
+mod subjects;
+
+use reading::Checked;
+ghost use mathlib.Core.Path.{_≡_};
+ghost use Rattle.choosing.specs.Answers.{noChoice, notChosen, ChoiceSays, notCosted, offeredSaid, offeredOf};
+
+// What is said of the cheapest choice: its total and the steps, or the refusal.
+pub enum Cheapest {
+    Found { total: u64, steps: u32 },
+    Refused { number: u8, place: u32 },
+}
+
+// The answer, and beside it the subject of each node: 0 past the last node, and all 0 with a refusal.
+pub struct Chosen {
+    pub said: Cheapest,
+    pub subjects: [u8; 64],
+}
+
+// The total of an offered choice, or the refusal.
+pub enum Offered {
+    Costs(u64),
+    Refused { number: u8, place: u32 },
+}
+
+// A refusal: no subject is given.
+fn refused(number: u8, place: u32) -> Chosen
+    ensures { λ r. ⌜ r ≡ noChoice number place ⌝ }
+{
+    let said = Cheapest::Refused { number, place };
+    Chosen {
+        said,
+        subjects: [0; 64],
+    }
+}
+
+// Reading's refusal, passed up. (An acceptance is never handed in.)
+fn unread(answer: Checked) -> Chosen
+    ensures { λ r. ⌜ r ≡ notChosen answer ⌝ }
+{
+    match answer {
+        Checked::Refused { number, place } => refused(number, place),
+        Checked::Accepted(_) => refused(0, 0),
+    }
+}
+
+// The cheapest choice, for any bytes. Too few steps allowed is a refusal and carries no choice.
+pub fn cheapest_choice(file: &[u8]) -> Chosen
+    ensures { λ r. ⌜ ChoiceSays (now (file .entry)) (r .subjects) (r .said) ⌝ }
+{
+    let answer = reading::check(file);
+    let Checked::Accepted(h) = answer else {
+        return unread(answer);
+    };
+    let sets = subjects::all_subjects(file, h);
+    let without = subjects::lowest_without(file, h, sets);
+    if without < h.nodes {
+        return refused(12, without as u32);
+    }
+    let counted = steps::steps(file, h, sets);
+    if h.steps < counted {
+        return refused(13, 0);
+    }
+    let picked = down::least(file, h, sets);
+    let said = Cheapest::Found {
+        total: picked.total,
+        steps: counted,
+    };
+    let subjects = picked.subjects;
+    Chosen { said, subjects }
+}
+
+// Reading's refusal of an offer, passed up. (An acceptance is never handed in.)
+fn not_costed(answer: Checked) -> Offered
+    ensures { λ r. ⌜ r ≡ notCosted answer ⌝ }
+{
+    match answer {
+        Checked::Refused { number, place } => Offered::Refused { number, place },
+        Checked::Accepted(_) => Offered::Costs(0),
+    }
+}
+
+// What an offered choice costs, for any bytes and any offer: a subject for each node.
+pub fn offered_choice(file: &[u8], offer: &[u8]) -> Offered
+    ensures { λ r. ⌜ offeredSaid r ≡ offeredOf (now (file .entry)) (now (offer .entry)) ⌝ }
+{
+    let answer = reading::check(file);
+    let Checked::Accepted(h) = answer else {
+        return not_costed(answer);
+    };
+    if offer.len() != h.nodes as usize {
+        return Offered::Refused {
+            number: 14,
+            place: h.nodes as u32,
+        };
+    }
+    let bad = offer::lowest_bad(file, h, offer);
+    if bad < h.nodes {
+        return Offered::Refused {
+            number: 14,
+            place: bad as u32,
+        };
+    }
+    Offered::Costs(offer::total(file, h, offer))
+}

@@ -1,0 +1,85 @@
+-- Who may have a table, said by members.
+use Prim.Native.Nat.{ℕ, _<_}
+use mathlib.Core.Path.{_≡_, refl}
+use mathlib.Core.Bool.{Bool, true, false}
+use mathlib.Core.Logic.{_⊎_, inl, inr, ⊎-elim}
+use lib.ListN.{getD}
+use Rattle.laws.specs.Choose.{if_then_else_}
+use Rattle.sets.specs.Sets.{In, Within, union, minus, within}
+use Rattle.sets.proofs.Members.{same-members, in-or-not, in-union, in-minus, in-none, within-exactly}
+use Rattle.sets.proofs.Words.{not-within}
+use Rattle.model.specs.declared.Table.{Table}
+use Rattle.model.specs.Candidates.{clearOffends, sealedOffends, tiedOffends, May}
+use Rattle.model.proofs.Lowest.{clash}
+
+-- what is visible or implicit in clear is in P, what is so sealed in P or E, and of a tied set all is in P or all in E
+pub record Sees (t : Table) (P E : ℕ) : Type 0 where
+  pub clear : Within (t .clear) P
+  pub tested : Within (t .tested) P
+  pub sealed : (a : ℕ) → In a (t .sealed) → In a P ⊎ In a E
+  pub hidden : (a : ℕ) → In a (t .hidden) → In a P ⊎ In a E
+  pub tied : (a b c : ℕ) → a < 64 → In b (getD (t .tied) a 0) → In c (getD (t .tied) a 0) → (In b P → ⊥) → (In c E → ⊥) → ⊥
+
+-- nothing of a is outside b
+outside : (a b : ℕ) → minus a b ≡ 0 → Within a b
+outside a b e k h = ⊎-elim (λ q. q) (λ q. absurd (in-none k (rw e at (in-minus a b k .1 (h, q))))) (in-or-not k b)
+
+inside : (a b : ℕ) → Within a b → minus a b ≡ 0
+inside a b f =
+    same-members (minus a b) 0
+    (λ k h.
+    let w = in-minus a b k .0 h in
+    absurd (w .1 (f k (w .0))))
+    (λ k h. absurd (in-none k h))
+
+-- that is when the subject may have it
+module _ (t : Table) (P E : ℕ) where
+  tied-fine : ((a b c : ℕ) → a < 64 → In b (getD (t .tied) a 0) → In c (getD (t .tied) a 0) → (In b P → ⊥) → (In c E → ⊥) → ⊥)
+      → (k : ℕ) → k < 64 → tiedOffends t P E k ≡ false
+  unfolding tiedOffends
+  tied-fine f k l = go (within m P) (within m E) refl refl
+    where
+      m : ℕ
+      m = getD (t .tied) k 0
+
+      go : (x y : Bool) → within m P ≡ x → within m E ≡ y → (if x then false else if y then false else true) ≡ false
+      go true y p q = refl
+      go false true p q = refl
+      go false false p q =
+          let b = not-within m P p in
+          let c = not-within m E q in
+          absurd (f k (b .0) (c .0) l (b .1) (c .1) (b .2) (c .2))
+
+  tied-whole : (k : ℕ) → tiedOffends t P E k ≡ false → Within (getD (t .tied) k 0) P ⊎ Within (getD (t .tied) k 0) E
+  unfolding tiedOffends
+  tied-whole k e = go (within m P) (within m E) refl refl e
+    where
+      m : ℕ
+      m = getD (t .tied) k 0
+
+      go : (x y : Bool) → within m P ≡ x → within m E ≡ y → (if x then false else if y then false else true) ≡ false → Within m P ⊎ Within m E
+      go true y p q e = inl (within-exactly m P .0 p)
+      go false true p q e = inr (within-exactly m E .0 q)
+      go false false p q e = absurd (clash e)
+
+  pub may-sees : May t P E → Sees t P E
+  unfolding clearOffends sealedOffends
+  may-sees m =
+      let one : Within (union (t .clear) (t .tested)) P = outside _ P (m .first) in
+      let two : Within (union (t .sealed) (t .hidden)) (union P E) = outside _ (union P E) (m .second) in
+      record {
+        clear = λ a h. one a (in-union (t .clear) (t .tested) a .1 (inl h));
+        tested = λ a h. one a (in-union (t .clear) (t .tested) a .1 (inr h));
+        sealed = λ a h. in-union P E a .0 (two a (in-union (t .sealed) (t .hidden) a .1 (inl h)));
+        hidden = λ a h. in-union P E a .0 (two a (in-union (t .sealed) (t .hidden) a .1 (inr h)));
+        tied = λ a b c l hb hc out off. ⊎-elim (λ w. out (w b hb)) (λ w. off (w c hc)) (tied-whole a (m .third a l));
+      }
+
+  pub sees-may : Sees t P E → May t P E
+  unfolding clearOffends sealedOffends
+  sees-may s =
+      record {
+        first = inside _ P (λ a h. ⊎-elim (s .clear a) (s .tested a) (in-union (t .clear) (t .tested) a .0 h));
+        second = inside _ (union P E) (λ a h. in-union P E a .1 (⊎-elim (s .sealed a) (s .hidden a) (in-union (t .sealed) (t .hidden) a .0 h)));
+        third = tied-fine (s .tied);
+      }
