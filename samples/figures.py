@@ -6,7 +6,7 @@ leaf alone; or a file of the greatest length. What stands beside it is read off 
 """
 import struct
 
-from night import all_kinds, alone, longest, sample
+from night import all_kinds, alone, longest, parted, sample
 
 # name, length, bytes changed, what document 01 says
 FIGURES = [
@@ -153,6 +153,55 @@ OTHERS = [
 ]
 
 
+# the entries, by the number that a case has
+CHECK, CHEAPEST, OFFERED = range(3)
+WIDE = (64, 128, 128)
+EXACT = (6, 12, 12)
+
+
+def allowed(file, steps):
+    return file[:11] + struct.pack(">I", steps) + file[15:]
+
+
+# name, file, lengths of the rooms for choice, plan and keys, what document 01 says of the cheapest choice
+CHEAPESTS = [
+    ("cheapest, 76 steps allowed", sample(), WIDE, "total 14 steps 76"),
+    ("cheapest, 75 steps allowed", allowed(sample(), 75), WIDE, "refused 13 place 0"),
+    ("cheapest, no step allowed", allowed(sample(), 0), WIDE, "refused 13 place 0"),
+    ("cheapest, rooms just long enough", sample(), EXACT, "total 14 steps 76"),
+    ("cheapest of a leaf alone, no step allowed", allowed(alone([(0, 0, 1, 0)]), 0), (1, 2, 2), "total 0 steps 0"),
+    ("cheapest of the longest file, 12,288 steps allowed", allowed(longest(), 12288), WIDE, "total 15048000000 steps 12288"),
+    ("cheapest of the longest file, 12,287 steps allowed", allowed(longest(), 12287), WIDE, "refused 13 place 0"),
+    ("12 nobody may join", parted(), WIDE, "refused 12 place 2"),
+    ("12 before 13 and 15", allowed(parted(), 0), (0, 0, 0), "refused 12 place 2"),
+    ("13 before 15", allowed(sample(), 75), (0, 0, 0), "refused 13 place 0"),
+    ("15 choice", sample(), (5, 12, 12), "refused 15 place 1"),
+    ("15 plan", sample(), (6, 11, 12), "refused 15 place 2"),
+    ("15 keys", sample(), (6, 12, 11), "refused 15 place 3"),
+    ("15 choice before keys", sample(), (0, 128, 0), "refused 15 place 1"),
+]
+# the same with the offered choice before the rooms
+SAMPLE_CHOICE = bytes([0, 0, 1, 3, 3, 4])
+OFFERS = [
+    ("offered, the cheapest", sample(), SAMPLE_CHOICE, WIDE, "total 14"),
+    ("offered, a dearer one", sample(), bytes([0, 1, 1, 3, 3, 4]), WIDE, "total 18"),
+    ("offered, steps are not asked", allowed(sample(), 0), SAMPLE_CHOICE, WIDE, "total 14"),
+    ("offered, no room for the choice", sample(), SAMPLE_CHOICE, (0, 12, 12), "total 14"),
+    ("offered, a leaf alone", alone([(0, 0, 1, 0)]), bytes([0]), (0, 2, 2), "total 0"),
+    ("14 five subjects", sample(), bytes([0, 0, 1, 3, 3]), WIDE, "refused 14 place 6"),
+    ("14 seven subjects", sample(), bytes([0, 0, 1, 3, 3, 4, 4]), WIDE, "refused 14 place 6"),
+    ("14 no candidate", sample(), bytes([0, 0, 1, 1, 3, 4]), WIDE, "refused 14 place 3"),
+    ("14 not the owner", sample(), bytes([1, 0, 1, 3, 3, 4]), WIDE, "refused 14 place 0"),
+    ("14 second leaf, not the owner", sample(), bytes([0, 0, 0, 3, 3, 4]), WIDE, "refused 14 place 2"),
+    ("14 subject 6 of 6", sample(), bytes([0, 6, 1, 3, 3, 4]), WIDE, "refused 14 place 1"),
+    ("14 subject 255", sample(), bytes([0, 255, 1, 3, 3, 4]), WIDE, "refused 14 place 1"),
+    ("14 where 12 is not asked", parted(), bytes([0, 1, 0]), WIDE, "refused 14 place 2"),
+    ("14 before 15", sample(), bytes(5), (0, 0, 0), "refused 14 place 6"),
+    ("15 plan, offered", sample(), SAMPLE_CHOICE, (0, 11, 11), "refused 15 place 2"),
+    ("15 keys, offered", sample(), SAMPLE_CHOICE, (0, 12, 11), "refused 15 place 3"),
+]
+
+
 def changed(data, length, edits):
     file = bytearray(data[:length].ljust(length, b"\0"))
     for at, value in edits.items():
@@ -161,14 +210,36 @@ def changed(data, length, edits):
     return bytes(file)
 
 
+def case(name, entry, rooms, offer, file):
+    parts = [struct.pack(">B", len(name)), name.encode(), struct.pack(">BBBBB", entry, *rooms, len(offer)), offer]
+    return b"".join(parts + [struct.pack(">H", len(file)), file])
+
+
+def first_of_each(cases):
+    """Of each number of refusal the first figure, with the file that is refused so."""
+    seen = set()
+    for name, file, said in cases:
+        if said.split()[0] == "refused" and said.split()[1] not in seen:
+            seen.add(said.split()[1])
+            yield name, file, said
+
+
 def main():
     cases = [(name, changed(sample(), length, edits), said) for name, length, edits, said in FIGURES]
     cases += [(name, changed(all_kinds(), len(all_kinds()), edits), said) for name, edits, said in KINDS]
+    cases += OTHERS
+    refused = list(first_of_each(cases))
     with open("crates/facts/stdin", "wb") as given, open("crates/facts/stdout", "w", encoding="ascii") as expected:
-        for name, file, said in cases + OTHERS:
-            given.write(struct.pack(">B", len(name)) + name.encode() + struct.pack(">H", len(file)) + file)
+        for name, file, said in cases:
+            given.write(case(name, CHECK, (0, 0, 0), b"", file))
             grants = 18 * int.from_bytes(file[9:11], "big") if said == "accepted" else 0
             expected.write("%s: %s, %d bytes of grants\n" % (name, said, grants))
+        for name, file, rooms, said in CHEAPESTS + [("cheapest, " + name, file, WIDE, said) for name, file, said in refused]:
+            given.write(case(name, CHEAPEST, rooms, b"", file))
+            expected.write("%s: %s, rooms kept\n" % (name, said))
+        for name, file, offer, rooms, said in OFFERS + [("offered, " + name, file, SAMPLE_CHOICE, WIDE, said) for name, file, said in refused]:
+            given.write(case(name, OFFERED, rooms, offer, file))
+            expected.write("%s: %s, rooms kept\n" % (name, said))
 
 
 if __name__ == "__main__":

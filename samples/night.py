@@ -90,6 +90,12 @@ def alone(granted):
     return file_of(1, 1, [(0, 1)], granted, [(LEAF, NONE, NONE, 0, NONE, 1, 0, 0)], [0], 0)
 
 
+def parted():
+    """Two owners who see nothing of each other's, and a join of their relations: nobody may run it."""
+    nodes = [(LEAF, NONE, NONE, 0, NONE, 1, 0, 1), (LEAF, NONE, NONE, 1, NONE, 2, 0, 1), (JOIN, 0, 1, 0, 1, 0, 0, 1)]
+    return file_of(2, 2, [(0, 1), (1, 2)], [(0, 0, 1, 0), (1, 1, 2, 0)], nodes, [1, 1], 1)
+
+
 def longest():
     """Every count at its limit, all 64 bits of the sets in use: 16 leaves, 15 products over them, 33 selects on top."""
     sets = [0xF << 4 * r for r in range(16)]

@@ -1,3 +1,6 @@
 -- The proofs of the statements over bytes.
 pub mod Marked
 pub mod Leaves
+pub mod Once
+pub mod Runs
+pub mod Demand3

@@ -73,7 +73,7 @@ unfolding anyOf be first somewhere upwards bit member union meet minus within si
 least-is = refl
 
 -- the choice that is worked out costs that, and so does every other cheapest choice
-sound : Promised sampleNight
+pub sound : Promised sampleNight
 sound = rw decoded at (accepted-promises sample head sample-accepted)
 
 have : AllHave sampleNight

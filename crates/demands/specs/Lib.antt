@@ -2,3 +2,6 @@
 pub mod SampleNight
 pub mod Marked
 pub mod Leaves
+pub mod Once
+pub mod Runs
+pub mod Demand3

@@ -3,5 +3,6 @@ pub mod Cases
 pub mod First
 pub mod Trials
 pub mod Upwards
+pub mod Front
 pub mod BigEndian
 pub mod Sums

@@ -77,3 +77,12 @@ each-past f d k n h = upwards-past (λ before i. f i) d k n h
 
 pub each-length : {A : Type 0} (f : ℕ → A) (n : ℕ) → length (each n f) ≡ n
 each-length f n = upwards-length (λ before i. f i) n
+
+-- two ways to work a list out that say the same of every entry below n
+pub upwards-same : {A : Type 0} (f g : List A → ℕ → A) (n : ℕ) → ((before : List A) (i : ℕ) → i < n → f before i ≡ g before i) → upwards f n ≡ upwards g n
+unfolding upwards
+upwards-same f g zero h = refl
+upwards-same f g (suc n) h = rw (upwards-same f g n (λ before i l. h before i (omega arith)), h (upwards g n) n (omega arith)) refl
+
+pub each-same : {A : Type 0} (f g : ℕ → A) (n : ℕ) → ((i : ℕ) → i < n → f i ≡ g i) → each n f ≡ each n g
+each-same f g n h = upwards-same (λ before i. f i) (λ before i. g i) n (λ before i l. h i l)

@@ -26,3 +26,6 @@ pub mod BuiltColumns
 pub mod BuiltFree
 pub mod BuiltAllowed
 pub mod Demand
+pub mod Keyed
+pub mod Turns
+pub mod SamePlan

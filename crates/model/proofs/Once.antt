@@ -7,7 +7,8 @@ use native.Mathlib.Nat.{le-antisymm, eq-or-lt-of-le, le-of-suc-le-suc}
 use native.Mathlib.Omega.{arith}
 use lib.Dec.{ltb}
 use borrow.Author.Tests.{ltb-true, ltb-false}
-use Rattle.model.specs.Choice.{Choice, Earlier, LeastOnce}
+use Rattle.night.specs.Night.{Night}
+use Rattle.model.specs.Choice.{Choice, total, Earlier, Least, LeastOnce}
 
 -- the last node decides
 earlier-top : (n : ℕ) (c d : Choice) → c n < d n → Earlier (suc n) c d
@@ -39,10 +40,13 @@ compared (suc n) c d = go (ltb (c n) (d n)) (ltb (d n) (c n)) refl refl (compare
         let e : c n ≡ d n = le-antisymm (ltb-false (d n) (c n) q) (ltb-false (c n) (d n) p) in
         ⊎-elim (λ f. inl (same-more n c d e f)) (⊎-elim (λ x. inr (inl (earlier-more n c d e x))) (λ x. inr (inr (earlier-more n d c (sym e) x)))) r
 
--- two cheapest choices are the same
+-- two cheapest choices cost the same, and are the same
+pub least-total : (N : Night) (c d : Choice) → Least N c → Least N d → total N c ≡ total N d
+least-total N c d x y = le-antisymm (x .cheapest d (y .admissible)) (y .cheapest c (x .admissible))
+
 pub least-once : LeastOnce
 least-once N c d x y =
-    let e = le-antisymm (x .cheapest d (y .admissible)) (y .cheapest c (x .admissible)) in
+    let e = least-total N c d x y in
     ⊎-elim (λ f. f)
     (⊎-elim (λ h. absurd (y .earliest c (x .admissible) e h)) (λ h. absurd (x .earliest d (y .admissible) (sym e) h)))
     (compared (N .header .nodes) c d)

@@ -62,7 +62,7 @@ pub union-none : (a : ℕ) → union a 0 ≡ a
 unfolding union
 union-none a = or-zero-r a
 
-same-bits : (a b : ℕ) → ((k : ℕ) → bit a k ≡ bit b k) → a ≡ b
+pub same-bits : (a b : ℕ) → ((k : ℕ) → bit a k ≡ bit b k) → a ≡ b
 same-bits a b f = same-members a b (λ k h. sym (f k) ∙ h) (λ k h. f k ∙ h)
 
 union-across : (a b c d : ℕ) → union (union a b) (union c d) ≡ union (union a c) (union b d)

@@ -1,2 +1,4 @@
 -- What the planner's answers rest on.
 pub mod Answered
+pub mod Planned
+pub mod Short

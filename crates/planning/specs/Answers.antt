@@ -1,19 +1,33 @@
 -- What each case of an answer says: document 01's number and place, or the values.
-use Prim.Native.Nat.{ℕ, _<_, _≤_}
+use Prim.Native.Nat.{ℕ, _<_, _≤_, _*_}
 use mathlib.Core.Path.{_≡_}
-use mathlib.Core.List.{List}
+use mathlib.Core.List.{List, _++_}
 use mathlib.Core.Logic.{_↔_, _⊎_}
-use Rattle.laws.specs.Trials.{Says, answers, refuses, verdict}
+use lib.ListN.{getD, drop}
+use Rattle.laws.specs.Trials.{Trial, Says, answers, refuses, verdict}
+use Rattle.laws.specs.Upwards.{each}
 use Rattle.sets.specs.Sets.{In}
-use Rattle.night.specs.Night.{nodeOf}
+use Rattle.night.specs.Night.{Night, nodeOf}
 use Rattle.night.specs.Views.{clearOf, sealedOf}
 use Rattle.layout.specs.Layout.{nightOf}
 use Rattle.model.specs.Candidates.{Candidate, candidateSet}
+use Rattle.model.specs.Choice.{Choice, Least, total, steps}
+use Rattle.model.specs.Plan.{built, planRoom, keysRoom}
+use Rattle.model.specs.Refusals.{choiceRoomTrials, planRoomTrials, keysRoomTrials}
 use Rattle.reading.specs.Trials.{trials}
 use Rattle.reading.specs.declared.Checked.{Checked}
 use Rattle.reading.specs.declared.Checked.the-variants.{Accepted, Refused}
+use Rattle.choosing.specs.Answers.{cheapestTrials, offeredTrials}
+use Rattle.choosing.specs.declared.Cheapest.{Cheapest}
+use Rattle.choosing.specs.declared.Cheapest.the-variants.{Found, Refused as NotFound}
+use Rattle.choosing.specs.declared.Offered.{Offered}
+use Rattle.choosing.specs.declared.Offered.the-variants.{Costs, Refused as NotCosted}
 use Rattle.planning.specs.declared.CandidateSet.{CandidateSet}
 use Rattle.planning.specs.declared.CandidateSet.the-variants.{Among, Refused as NoCandidates}
+use Rattle.planning.specs.declared.CheapestPlan.{CheapestPlan}
+use Rattle.planning.specs.declared.CheapestPlan.the-variants.{Cheapest as CheapestWith, Refused as NoCheapest}
+use Rattle.planning.specs.declared.OfferedPlan.{OfferedPlan}
+use Rattle.planning.specs.declared.OfferedPlan.the-variants.{Offered as OfferedWith, Refused as NoOffered}
 
 -- `candidates`: a set of subjects, or refused with number and place
 abbrev pub candidatesSaid : CandidateSet → Says ℕ
@@ -40,3 +54,53 @@ CandidatesOnce = (a b : CandidateSet) → candidatesSaid a ≡ candidatesSaid b 
 -- a leaf and a number that no node has get the empty set
 abbrev pub NoneElsewhere : Type 0
 NoneElsewhere = (s : List ℕ) (i set : ℕ) → candidatesOf s i ≡ answers set → (nightOf s .header .nodes ≤ i) ⊎ (nodeOf (nightOf s) i .kind ≡ 0) → set ≡ 0
+
+-- the rooms lent for the choice, the plan and the keys
+pub record Rooms : Type 0 where
+  pub choice : List ℕ
+  pub plan : List ℕ
+  pub keys : List ℕ
+
+-- the plan for a choice fills plan and keys; what lies beyond is as it was
+pub record Filled (N : Night) (c : Choice) (before after : Rooms) : Type 0 where
+  pub plan : after .plan ≡ planRoom N (built N c) ++ drop (2 * N .header .nodes) (before .plan)
+  pub keys : after .keys ≡ keysRoom N (built N c) ++ drop (2 * N .header .attributes) (before .keys)
+
+-- the cheapest choice with its total and the steps, and all three rooms
+pub record CheapestFilled (N : Night) (before after : Rooms) (total′ steps′ : ℕ) : Type 0 where
+  pub subject : Choice
+  pub least : Least N subject
+  pub its-total : total′ ≡ total N subject
+  pub its-steps : steps′ ≡ steps N
+  pub choice : after .choice ≡ each (N .header .nodes) subject ++ drop (N .header .nodes) (before .choice)
+  pub filled : Filled N subject before after
+
+-- `cheapest`: 1 to 11, 12, 13, 15; when refused, every room is as it was
+unfoldable pub cheapestPlanTrials : List ℕ → Rooms → List Trial
+cheapestPlanTrials s rooms =
+    cheapestTrials s ++ (choiceRoomTrials (nightOf s) (rooms .choice) ++ (planRoomTrials (nightOf s) (rooms .plan) ++ keysRoomTrials (nightOf s) (rooms .keys)))
+
+-- the choice's answer as this one
+abbrev pub choicePassedUp : Cheapest → CheapestPlan
+choicePassedUp (Found total steps) = CheapestWith total steps
+choicePassedUp (NotFound n p) = NoCheapest n p
+
+abbrev pub CheapestSays : List ℕ → Rooms → Rooms → CheapestPlan → Type 0
+CheapestSays s before after (CheapestWith total steps) =
+    (verdict (cheapestPlanTrials s before) (tt {0}) ≡ answers tt) × CheapestFilled (nightOf s) before after total steps
+CheapestSays s before after (NoCheapest n p) = (verdict (cheapestPlanTrials s before) (tt {0}) ≡ refuses n p) × (after ≡ before)
+
+-- `offered`: 1 to 11, 14, 15; the room for the choice is not asked and stays
+unfoldable pub offeredPlanTrials : List ℕ → List ℕ → Rooms → List Trial
+offeredPlanTrials s offer rooms = offeredTrials s offer ++ (planRoomTrials (nightOf s) (rooms .plan) ++ keysRoomTrials (nightOf s) (rooms .keys))
+
+-- the offer's answer as this one
+abbrev pub offerPassedUp : Offered → OfferedPlan
+offerPassedUp (Costs total) = OfferedWith total
+offerPassedUp (NotCosted n p) = NoOffered n p
+
+abbrev pub OfferedSays : List ℕ → List ℕ → Rooms → Rooms → OfferedPlan → Type 0
+OfferedSays s offer before after (OfferedWith total′) =
+    (verdict (offeredPlanTrials s offer before) (tt {0}) ≡ answers tt) × (total′ ≡ total (nightOf s) (λ i. getD offer i 0))
+    × Filled (nightOf s) (λ i. getD offer i 0) before after × (after .choice ≡ before .choice)
+OfferedSays s offer before after (NoOffered n p) = (verdict (offeredPlanTrials s offer before) (tt {0}) ≡ refuses n p) × (after ≡ before)

@@ -1,7 +1,13 @@
 // The entries of the planner. Each takes any bytes, asks nothing of its caller, and answers or refuses with a number and a place.
+mod rooms;
+
+use choosing::Cheapest;
+use choosing::Offered;
+use layout::values;
 use reading::Checked;
 ghost use mathlib.Core.Path.{_≡_};
-ghost use Rattle.planning.specs.Answers.{candidatesSaid, candidatesOf, passedUp};
+ghost use mathlib.Core.List.{[]};
+ghost use Rattle.planning.specs.Answers.{candidatesSaid, candidatesOf, passedUp, Rooms, choicePassedUp, CheapestSays, offerPassedUp, OfferedSays};
 
 // The candidates of a node, as a set of subjects, or the refusal.
 pub enum CandidateSet {
@@ -28,4 +34,79 @@ pub fn candidates(file: &[u8], node: usize) -> CandidateSet
         return refused(answer);
     };
     CandidateSet::Among(eligible::candidate_set(file, h, node))
+}
+
+// The cheapest plan: its total and the steps, or the refusal.
+pub enum CheapestPlan {
+    Cheapest { total: u64, steps: u32 },
+    Refused { number: u8, place: u32 },
+}
+
+// The plan for an offered choice: its total, or the refusal.
+pub enum OfferedPlan {
+    Offered { total: u64 },
+    Refused { number: u8, place: u32 },
+}
+
+// The choice's refusal, passed up. (A choice that was found is never handed in.)
+fn unchosen(answer: Cheapest) -> CheapestPlan
+    ensures { λ r. ⌜ r ≡ choicePassedUp answer ⌝ }
+{
+    match answer {
+        Cheapest::Refused { number, place } => CheapestPlan::Refused { number, place },
+        Cheapest::Found { total, steps } => CheapestPlan::Cheapest { total, steps },
+    }
+}
+
+// The offer's refusal, passed up. (An offer that has a total is never handed in.)
+fn uncosted(answer: Offered) -> OfferedPlan
+    ensures { λ r. ⌜ r ≡ offerPassedUp answer ⌝ }
+{
+    match answer {
+        Offered::Refused { number, place } => OfferedPlan::Refused { number, place },
+        Offered::Costs(total) => OfferedPlan::Offered { total },
+    }
+}
+
+// The cheapest choice and its plan, written into the rooms lent for the choice, the plan and the keys; a refusal writes nothing.
+pub fn cheapest(file: &[u8], choice: &mut [u8], plan: &mut [u64], keys: &mut [u64]) -> CheapestPlan
+    ensures { λ r. ⌜ CheapestSays (now (file .entry)) (record { choice = now (choice .entry); plan = now (plan .entry); keys = now (keys .entry) }) (record { choice = now (choice .exit); plan = now (plan .exit); keys = now (keys .exit) }) r ⌝ }
+{
+    let chosen = choosing::cheapest_choice(file);
+    let said = chosen.said;
+    let Cheapest::Found { total, steps } = said else {
+        return unchosen(said);
+    };
+    let h = values::header(file);
+    let of_three = rooms::short_of_three(choice.len(), plan.len(), keys.len(), h);
+    if of_three != 0 {
+        return CheapestPlan::Refused {
+            number: 15,
+            place: of_three,
+        };
+    }
+    let subjects = chosen.subjects;
+    rooms::fill_choice(choice, subjects, h.nodes);
+    rooms::fill_plan(file, h, &subjects, plan, keys);
+    CheapestPlan::Cheapest { total, steps }
+}
+
+// The plan for an offered choice, written into the rooms lent for the plan and the keys; a refusal writes nothing.
+pub fn offered(file: &[u8], offer: &[u8], plan: &mut [u64], keys: &mut [u64]) -> OfferedPlan
+    ensures { λ r. ⌜ OfferedSays (now (file .entry)) (now (offer .entry)) (record { choice = []; plan = now (plan .entry); keys = now (keys .entry) }) (record { choice = []; plan = now (plan .exit); keys = now (keys .exit) }) r ⌝ }
+{
+    let answer = choosing::offered_choice(file, offer);
+    let Offered::Costs(total) = answer else {
+        return uncosted(answer);
+    };
+    let h = values::header(file);
+    let of_two = rooms::short_of_two(plan.len(), keys.len(), h);
+    if of_two != 0 {
+        return OfferedPlan::Refused {
+            number: 15,
+            place: of_two,
+        };
+    }
+    rooms::fill_plan(file, h, offer, plan, keys);
+    OfferedPlan::Offered { total }
 }

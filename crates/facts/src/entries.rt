@@ -1,0 +1,186 @@
+// The entries that a case may ask, and what each says.
+use layout::values;
+use planning::CheapestPlan;
+use planning::OfferedPlan;
+use reading::Checked;
+ghost use Prim.Native.Nat.{_≤_};
+ghost use lib.ListN.{length};
+
+// What stands in the rooms before a call.
+const BYTE: u8 = 165;
+
+const WORD: u64 = 0xa5a5_a5a5_a5a5_a5a5;
+
+// Asks the entry: 1 cheapest, 2 offered, else check. `how` holds the entry and the lengths of the rooms.
+pub fn ask(how: &[u8], offer: &[u8], file: &[u8]) {
+    if how.len() < 4 {
+        return;
+    }
+    let plan = least(how[2], 128);
+    let keys = least(how[3], 128);
+    if how[0] == 1 {
+        cheapest(file, least(how[1], 64), plan, keys);
+    } else if how[0] == 2 {
+        offered(file, offer, plan, keys);
+    } else {
+        check(file);
+    }
+    io::write_all(1, b"\n");
+}
+
+// A room's length, at most what there is.
+fn least(length: u8, most: usize) -> usize
+    ensures { λ r. ⌜ r ≤ most ⌝ }
+{
+    let n = length as usize;
+    if most < n {
+        return most;
+    }
+    n
+}
+
+// The verdict of reading, and the length of the part of grant records.
+fn check(file: &[u8]) {
+    match reading::check(file) {
+        Checked::Accepted(_) => accepted(),
+        Checked::Refused { number, place } => refused(number, place),
+    }
+    io::write_all(1, b", ");
+    io::print_decimal(1, reading::grant_records(file).len() as u64);
+    io::write_all(1, b" bytes of grants");
+}
+
+// The cheapest plan's total and steps, with rooms of n, p and k, and whether all that had to stay in them did.
+fn cheapest(file: &[u8], n: usize, p: usize, k: usize)
+    requires { ⌜ (n ≤ 64) × (p ≤ 128) × (k ≤ 128) ⌝ }
+{
+    let mut choice = [BYTE; 64];
+    let mut plan = [WORD; 128];
+    let mut keys = [WORD; 128];
+    let said = cheapest_in(file, &mut choice, &mut plan, &mut keys, n, p, k);
+    match said {
+        CheapestPlan::Cheapest { total, steps } => {
+            costs(total);
+            counted(steps);
+            let h = values::header(file);
+            rooms(
+                bytes_kept(&choice, h.nodes as usize),
+                words_kept(&plan, 2 * (h.nodes as usize)),
+                words_kept(&keys, 2 * (h.attributes as usize)),
+            );
+        }
+        CheapestPlan::Refused { number, place } => {
+            refused(number, place);
+            rooms(
+                bytes_kept(&choice, 0),
+                words_kept(&plan, 0),
+                words_kept(&keys, 0),
+            );
+        }
+    }
+}
+
+// The answer with rooms cut to these lengths.
+fn cheapest_in(
+    file: &[u8],
+    choice: &mut [u8],
+    plan: &mut [u64],
+    keys: &mut [u64],
+    n: usize,
+    p: usize,
+    k: usize,
+) -> CheapestPlan
+    requires { ⌜ (n ≤ length (now choice)) × (p ≤ length (now plan)) × (k ≤ length (now keys)) ⌝ }
+{
+    planning::cheapest(file, &mut choice[..n], &mut plan[..p], &mut keys[..k])
+}
+
+// The same of the plan for an offered choice.
+fn offered(file: &[u8], offer: &[u8], p: usize, k: usize)
+    requires { ⌜ (p ≤ 128) × (k ≤ 128) ⌝ }
+{
+    let mut plan = [WORD; 128];
+    let mut keys = [WORD; 128];
+    let said = offered_in(file, offer, &mut plan, &mut keys, p, k);
+    match said {
+        OfferedPlan::Offered { total } => {
+            costs(total);
+            let h = values::header(file);
+            rooms(
+                true,
+                words_kept(&plan, 2 * (h.nodes as usize)),
+                words_kept(&keys, 2 * (h.attributes as usize)),
+            );
+        }
+        OfferedPlan::Refused { number, place } => {
+            refused(number, place);
+            rooms(true, words_kept(&plan, 0), words_kept(&keys, 0));
+        }
+    }
+}
+
+// The answer with rooms cut to these lengths.
+fn offered_in(
+    file: &[u8],
+    offer: &[u8],
+    plan: &mut [u64],
+    keys: &mut [u64],
+    p: usize,
+    k: usize,
+) -> OfferedPlan
+    requires { ⌜ (p ≤ length (now plan)) × (k ≤ length (now keys)) ⌝ }
+{
+    planning::offered(file, offer, &mut plan[..p], &mut keys[..k])
+}
+
+// Whether the room has its first contents from here on.
+fn bytes_kept(room: &[u8], from: usize) -> bool {
+    let mut i = from;
+    while i < room.len() {
+        if room[i] != BYTE {
+            return false;
+        }
+        i += 1;
+    }
+    true
+}
+
+fn words_kept(room: &[u64], from: usize) -> bool {
+    let mut i = from;
+    while i < room.len() {
+        if room[i] != WORD {
+            return false;
+        }
+        i += 1;
+    }
+    true
+}
+
+fn rooms(choice: bool, plan: bool, keys: bool) {
+    if choice && plan && keys {
+        io::write_all(1, b", rooms kept");
+    } else {
+        io::write_all(1, b", rooms changed");
+    }
+}
+
+fn accepted() {
+    io::write_all(1, b": accepted");
+}
+
+fn costs(total: u64) {
+    io::write_all(1, b": total ");
+    io::print_decimal(1, total);
+}
+
+fn counted(steps: u32) {
+    io::write_all(1, b" steps ");
+    io::print_decimal(1, steps as u64);
+}
+
+fn refused(number: u8, place: u32) {
+    io::write_all(1, b": refused ");
+    io::print_decimal(1, number as u64);
+    io::write_all(1, b" place ");
+    io::print_decimal(1, place as u64);
+}

@@ -1,0 +1,71 @@
+-- The set grows by one node a turn.
+use native.Mathlib.Omega.{arith}
+use borrow.Author.Needs.{needs}
+use Prim.Native.Nat.{ℕ, _≤_, _-_}
+use mathlib.Core.Path.{_≡_, sym, _∙_}
+use denote.Ref.{now}
+use lib.ListN.{getD}
+use Rattle.laws.specs.Choose.{if_then_else_}
+use Rattle.sets.specs.Sets.{union, apart, single, unions}
+use Rattle.sets.proofs.Words.{unions-none, unions-more}
+use Rattle.model.proofs.Keyed.{holders-each}
+use Rattle.keying.specs.Nodes.{nodeEvents}
+use Rattle.keying.proofs.keys.holders_of.Statement.{statement}
+use Rattle.keying.proofs.keys.holders_of.Tie as tie
+
+abbrev Inv-loop : tie.InvT-loop
+Inv-loop choice opens seals n group all₀ i₀ all i = (i ≤ n) × (all ≡ unions (λ j. if apart group (union (getD opens j 0) (getD seals j 0)) then 0 else single 16 (getD choice j 0)) i)
+
+abbrev μ-loop : tie.MeasureT-loop
+μ-loop choice opens seals n group all₀ i₀ all i = n - i
+
+loop-holds : tie.Need-loop-holds Inv-loop μ-loop
+loop-holds c = (omega arith, sym (unions-none _))
+
+subject-at-requires : tie.Need-subject-at-requires Inv-loop μ-loop
+subject-at-requires c κs = search needs
+
+set-at-requires : tie.Need-set-at-requires Inv-loop μ-loop
+set-at-requires c κs = search needs
+
+set-at-requires-2 : tie.Need-set-at-requires-2 Inv-loop μ-loop
+set-at-requires-2 c κs = search needs
+
+as-holder-requires : tie.Need-as-holder-requires Inv-loop μ-loop
+as-holder-requires c κs = search needs
+
+union-requires : tie.Need-union-requires Inv-loop μ-loop
+union-requires c κs = search needs
+
+add-i : tie.Need-add-i Inv-loop μ-loop
+add-i c = omega arith
+
+loop-less : tie.Need-loop-less Inv-loop μ-loop
+loop-less c = omega arith
+
+loop-again : tie.Need-loop-again Inv-loop μ-loop
+loop-again c = (omega arith, rw unions-more (cc))
+
+returns : tie.Need-returns Inv-loop μ-loop
+unfolding nodeEvents
+returns c =
+    let a = c .before .before .before .args in
+    let e : c .before .loop .i ≡ a .n = omega arith in
+    (rw e at (c .before .loop .inv .1)) ∙ sym (holders-each (λ i. record { subject = getD (now (a .choice)) i 0; opened = getD (a .opens) i 0; sealed = getD (a .seals) i 0 }) (a .group) (a .n))
+
+pub holders-of-spec : {M : Type 1} → statement M
+holders-of-spec =
+    tie.close
+    (tie.spec
+    Inv-loop
+    μ-loop
+    loop-holds
+    subject-at-requires
+    set-at-requires
+    set-at-requires-2
+    as-holder-requires
+    union-requires
+    add-i
+    loop-less
+    loop-again
+    returns)

@@ -1,0 +1,77 @@
+// The built plan's openings and sealings, and the tied sets that group its keys.
+use layout::values;
+use night::Header;
+use tables::steps;
+ghost use mathlib.Core.Path.{_≡_};
+ghost use Prim.Native.Nat.{_<_, _+_, _-_};
+ghost use lib.Dec.{eqb};
+ghost use Rattle.laws.specs.Choose.{if_then_else_};
+ghost use Rattle.laws.specs.Upwards.{each};
+ghost use Rattle.layout.specs.Layout.{nightIn};
+ghost use Rattle.night.specs.Night.{nodeOf};
+ghost use Rattle.model.specs.Tables.{tableOf};
+
+// What node i needs in clear, which it opens where everything arrives sealed.
+fn opens_of(file: &[u8], h: Header, i: usize) -> u64
+    ensures { λ r. ⌜ r ≡ nodeOf (nightIn (now (file .entry)) h) i .needed ⌝ }
+{
+    let v = values::node(file, h, i);
+    v.needed
+}
+
+// What node i seals on leaving: all that is clear in its table, at the root nothing.
+fn seals_of(file: &[u8], h: Header, i: usize) -> u64
+    requires { ⌜ i < 64 ⌝ }
+    ensures { λ r. ⌜ r ≡ (if eqb (i + 1) (h .nodes) then 0 else tableOf (nightIn (now (file .entry)) h) i .clear) ⌝ }
+{
+    if i + 1 == h.nodes as usize {
+        return 0;
+    }
+    let t = steps::table_of(file, h, i);
+    t.clear
+}
+
+// What each node opens; nothing past the last node.
+pub fn all_opens(file: &[u8], h: Header) -> [u64; 64]
+    ensures { λ r. ⌜ r ≡ each 64 (λ i. nodeOf (nightIn (now (file .entry)) h) i .needed) ⌝ }
+{
+    let mut opens = [0u64; 64];
+    let mut i: usize = 0;
+    while i < 64 {
+        opens[i] = opens_of(file, h, i);
+        i += 1;
+    }
+    opens
+}
+
+// What each node seals; nothing past the last node.
+pub fn all_seals(file: &[u8], h: Header) -> [u64; 64]
+    ensures { λ r. ⌜ r ≡ each 64 (λ i. if eqb (i + 1) (h .nodes) then 0 else tableOf (nightIn (now (file .entry)) h) i .clear) ⌝ }
+{
+    let mut seals = [0u64; 64];
+    let mut i: usize = 0;
+    while i < 64 {
+        seals[i] = seals_of(file, h, i);
+        i += 1;
+    }
+    seals
+}
+
+// The number of the last node, 0 where there is none.
+fn root(h: Header) -> usize
+    ensures { λ r. ⌜ r ≡ h .nodes - 1 ⌝ }
+{
+    if h.nodes == 0 {
+        return 0;
+    }
+    h.nodes as usize - 1
+}
+
+// The root's tied sets: for each attribute the whole set that it stands in.
+pub fn root_tied(file: &[u8], h: Header) -> [u64; 64]
+    ensures { λ r. ⌜ r ≡ tableOf (nightIn (now (file .entry)) h) (h .nodes - 1) .tied ⌝ }
+{
+    let t = steps::table_of(file, h, root(h));
+    let tied = t.tied;
+    tied
+}

@@ -1,0 +1,29 @@
+// Reads a plan file from standard input and prints the cheapest plan, or the refusal.
+mod print;
+
+use layout::values;
+use planning::CheapestPlan;
+
+// The input is cut one byte past the longest file, so that a longer one is refused by its length.
+fn main() {
+    let mut input = [0u8; 11968];
+    let n = io::read_full(0, &mut input);
+    answer(&input[..n]);
+}
+
+// Plans the file and prints what comes of it.
+fn answer(file: &[u8]) {
+    let mut choice = [0u8; 64];
+    let mut plan = [0u64; 128];
+    let mut keys = [0u64; 128];
+    let said = planning::cheapest(file, &mut choice, &mut plan, &mut keys);
+    match said {
+        CheapestPlan::Cheapest { total, steps } => {
+            print::totals(total, steps);
+            let h = values::header(file);
+            print::nodes(&choice, &plan, h.nodes);
+            print::keys(&keys, h.attributes);
+        }
+        CheapestPlan::Refused { number, place } => print::refused(number, place),
+    }
+}

@@ -1,0 +1,73 @@
+-- The arrays hold the built plan and its keys, and fill the rooms two by two.
+use denote.Ref.{now}
+use Rattle.layout.specs.Layout.{nightIn}
+use Rattle.planning.proofs.Planned.{plan-pairs, keys-pairs}
+use borrow.Author.Needs.{needs}
+use Rattle.planning.proofs.rooms.fill_plan.Statement.{statement}
+use Rattle.planning.proofs.rooms.fill_plan.Tie as tie
+
+all-opens-requires : tie.Need-all-opens-requires
+all-opens-requires c κs = search needs
+
+all-seals-requires : tie.Need-all-seals-requires
+all-seals-requires c κs = search needs
+
+root-tied-requires : tie.Need-root-tied-requires
+root-tied-requires c κs = search needs
+
+names-requires : tie.Need-names-requires
+names-requires c κs = search needs
+
+holders-requires : tie.Need-holders-requires
+holders-requires c κs = search needs
+
+fill-pairs-requires : tie.Need-fill-pairs-requires
+unfolding nightIn
+fill-pairs-requires c κs =
+    let b = c .before .before .before .before .before .before .before .before .before .before in
+    (b .pre .0 .counts .nodes-most, b .pre .1)
+
+fill-pairs-requires-2 : tie.Need-fill-pairs-requires-2
+unfolding nightIn
+fill-pairs-requires-2 c κs =
+    let b = c .before .before .before .before .before .before .before .before .before .before .before .before .before .before in
+    (b .pre .0 .counts .attributes-most, b .pre .2)
+
+same-length : tie.Need-same-length
+same-length c = search needs
+
+same-length-2 : tie.Need-same-length-2
+same-length-2 c = search needs
+
+returns : tie.Need-returns
+unfolding nightIn
+returns c =
+    let b = c .before .before .before .before .before .before .before .before in
+    let start = b .before .before .before .before .before .before .before .before .before in
+    let a = start .args in
+    let opens = b .before .before .before .before .all-opens in
+    let seals = b .before .before .before .all-seals in
+    let tied = b .before .before .root-tied in
+    let N = nightIn (now (a .file)) (a .h) in
+    let subjects = now (a .choice) in
+    let plan = plan-pairs N (start .pre .0) subjects (opens .result) (seals .result) (tied .result) (opens .ensures) (seals .ensures) (tied .ensures) in
+    let keys =
+    keys-pairs N (start .pre .0) subjects (opens .result) (seals .result) (tied .result) (opens .ensures) (seals .ensures) (tied .ensures) (b .before .names .result) (b .holders .result)
+    (b .before .names .ensures subjects (opens .result)) (b .holders .ensures)
+    in
+    (rw (← plan) (c .before .before .before .before .before .before .fill-pairs .ensures), rw (← keys) (c .before .before .fill-pairs2 .ensures))
+
+pub fill-plan-spec : {M : Type 1} → statement M
+fill-plan-spec =
+    tie.close
+    (tie.spec
+    all-opens-requires
+    all-seals-requires
+    root-tied-requires
+    names-requires
+    holders-requires
+    fill-pairs-requires
+    fill-pairs-requires-2
+    same-length
+    same-length-2
+    returns)
