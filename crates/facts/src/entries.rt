@@ -3,13 +3,9 @@ use layout::values;
 use planning::CheapestPlan;
 use planning::OfferedPlan;
 use reading::Checked;
+use show::rooms;
 ghost use Prim.Native.Nat.{_≤_};
 ghost use lib.ListN.{length};
-
-// What stands in the rooms before a call.
-const BYTE: u8 = 165;
-
-const WORD: u64 = 0xa5a5_a5a5_a5a5_a5a5;
 
 // Asks the entry: 1 cheapest, 2 offered, else check. `how` holds the entry and the lengths of the rooms.
 pub fn ask(how: &[u8], offer: &[u8], file: &[u8]) {
@@ -54,27 +50,27 @@ fn check(file: &[u8]) {
 fn cheapest(file: &[u8], n: usize, p: usize, k: usize)
     requires { ⌜ (n ≤ 64) × (p ≤ 128) × (k ≤ 128) ⌝ }
 {
-    let mut choice = [BYTE; 64];
-    let mut plan = [WORD; 128];
-    let mut keys = [WORD; 128];
+    let mut choice = [rooms::BYTE; 64];
+    let mut plan = [rooms::WORD; 128];
+    let mut keys = [rooms::WORD; 128];
     let said = cheapest_in(file, &mut choice, &mut plan, &mut keys, n, p, k);
     match said {
         CheapestPlan::Cheapest { total, steps } => {
             costs(total);
             counted(steps);
             let h = values::header(file);
-            rooms(
-                bytes_kept(&choice, h.nodes as usize),
-                words_kept(&plan, 2 * (h.nodes as usize)),
-                words_kept(&keys, 2 * (h.attributes as usize)),
+            told(
+                rooms::bytes_kept(&choice, h.nodes as usize),
+                rooms::words_kept(&plan, 2 * (h.nodes as usize)),
+                rooms::words_kept(&keys, 2 * (h.attributes as usize)),
             );
         }
         CheapestPlan::Refused { number, place } => {
             refused(number, place);
-            rooms(
-                bytes_kept(&choice, 0),
-                words_kept(&plan, 0),
-                words_kept(&keys, 0),
+            told(
+                rooms::bytes_kept(&choice, 0),
+                rooms::words_kept(&plan, 0),
+                rooms::words_kept(&keys, 0),
             );
         }
     }
@@ -99,22 +95,26 @@ fn cheapest_in(
 fn offered(file: &[u8], offer: &[u8], p: usize, k: usize)
     requires { ⌜ (p ≤ 128) × (k ≤ 128) ⌝ }
 {
-    let mut plan = [WORD; 128];
-    let mut keys = [WORD; 128];
+    let mut plan = [rooms::WORD; 128];
+    let mut keys = [rooms::WORD; 128];
     let said = offered_in(file, offer, &mut plan, &mut keys, p, k);
     match said {
         OfferedPlan::Offered { total } => {
             costs(total);
             let h = values::header(file);
-            rooms(
+            told(
                 true,
-                words_kept(&plan, 2 * (h.nodes as usize)),
-                words_kept(&keys, 2 * (h.attributes as usize)),
+                rooms::words_kept(&plan, 2 * (h.nodes as usize)),
+                rooms::words_kept(&keys, 2 * (h.attributes as usize)),
             );
         }
         OfferedPlan::Refused { number, place } => {
             refused(number, place);
-            rooms(true, words_kept(&plan, 0), words_kept(&keys, 0));
+            told(
+                true,
+                rooms::words_kept(&plan, 0),
+                rooms::words_kept(&keys, 0),
+            );
         }
     }
 }
@@ -133,30 +133,8 @@ fn offered_in(
     planning::offered(file, offer, &mut plan[..p], &mut keys[..k])
 }
 
-// Whether the room has its first contents from here on.
-fn bytes_kept(room: &[u8], from: usize) -> bool {
-    let mut i = from;
-    while i < room.len() {
-        if room[i] != BYTE {
-            return false;
-        }
-        i += 1;
-    }
-    true
-}
-
-fn words_kept(room: &[u64], from: usize) -> bool {
-    let mut i = from;
-    while i < room.len() {
-        if room[i] != WORD {
-            return false;
-        }
-        i += 1;
-    }
-    true
-}
-
-fn rooms(choice: bool, plan: bool, keys: bool) {
+// Whether all three rooms kept what had to stay.
+fn told(choice: bool, plan: bool, keys: bool) {
     if choice && plan && keys {
         io::write_all(1, b", rooms kept");
     } else {

@@ -61,10 +61,11 @@ pub fn all_seals(file: &[u8], h: Header) -> [u64; 64]
 fn root(h: Header) -> usize
     ensures { λ r. ⌜ r ≡ h .nodes - 1 ⌝ }
 {
-    if h.nodes == 0 {
+    let n = h.nodes as usize;
+    if n == 0 {
         return 0;
     }
-    h.nodes as usize - 1
+    n - 1
 }
 
 // The root's tied sets: for each attribute the whole set that it stands in.

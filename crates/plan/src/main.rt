@@ -1,8 +1,7 @@
 // Reads a plan file from standard input and prints the cheapest plan, or the refusal.
-mod print;
-
 use layout::values;
 use planning::CheapestPlan;
+use show::lines;
 
 // The input is cut one byte past the longest file, so that a longer one is refused by its length.
 fn main() {
@@ -19,11 +18,11 @@ fn answer(file: &[u8]) {
     let said = planning::cheapest(file, &mut choice, &mut plan, &mut keys);
     match said {
         CheapestPlan::Cheapest { total, steps } => {
-            print::totals(total, steps);
+            lines::totals(total, steps);
             let h = values::header(file);
-            print::nodes(&choice, &plan, h.nodes);
-            print::keys(&keys, h.attributes);
+            lines::nodes(&choice, &plan, h.nodes);
+            lines::keys(&keys, h.attributes);
         }
-        CheapestPlan::Refused { number, place } => print::refused(number, place),
+        CheapestPlan::Refused { number, place } => lines::refused(number, place),
     }
 }

@@ -1,6 +1,6 @@
 -- The trials of the lent rooms, from the place of the lowest that is too short.
 use Prim.Native.Nat.{ℕ, _*_, _≤_}
-use mathlib.Core.Path.{_≡_, refl, ap, sym, _∙_}
+use mathlib.Core.Path.{_≡_, refl}
 use mathlib.Core.Bool.{Bool, true, false}
 use mathlib.Core.List.{List, [], _∷_, _++_}
 use native.Mathlib.Omega.{arith}
@@ -8,7 +8,7 @@ use lib.Dec.{ltb}
 use lib.ListN.{length}
 use borrow.Author.Tests.{ltb-false}
 use Rattle.laws.specs.Choose.{if_then_else_}
-use Rattle.laws.specs.Trials.{Trial, trial, answers, refuses, verdict, Passes}
+use Rattle.laws.specs.Trials.{Trial, trial, refuses, verdict, Passes}
 use Rattle.night.specs.Night.{Night}
 use Rattle.model.specs.Refusals.{choiceRoomTrials, planRoomTrials, keysRoomTrials}
 

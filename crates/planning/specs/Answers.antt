@@ -75,29 +75,29 @@ pub record CheapestFilled (N : Night) (before after : Rooms) (total′ steps′ 
   pub choice : after .choice ≡ each (N .header .nodes) subject ++ drop (N .header .nodes) (before .choice)
   pub filled : Filled N subject before after
 
+-- the choice's answer as that of `cheapest`
+abbrev pub choicePassedUp : Cheapest → CheapestPlan
+choicePassedUp (Found total steps) = CheapestWith total steps
+choicePassedUp (NotFound n p) = NoCheapest n p
+
 -- `cheapest`: 1 to 11, 12, 13, 15; when refused, every room is as it was
 unfoldable pub cheapestPlanTrials : List ℕ → Rooms → List Trial
 cheapestPlanTrials s rooms =
     cheapestTrials s ++ (choiceRoomTrials (nightOf s) (rooms .choice) ++ (planRoomTrials (nightOf s) (rooms .plan) ++ keysRoomTrials (nightOf s) (rooms .keys)))
-
--- the choice's answer as this one
-abbrev pub choicePassedUp : Cheapest → CheapestPlan
-choicePassedUp (Found total steps) = CheapestWith total steps
-choicePassedUp (NotFound n p) = NoCheapest n p
 
 abbrev pub CheapestSays : List ℕ → Rooms → Rooms → CheapestPlan → Type 0
 CheapestSays s before after (CheapestWith total steps) =
     (verdict (cheapestPlanTrials s before) (tt {0}) ≡ answers tt) × CheapestFilled (nightOf s) before after total steps
 CheapestSays s before after (NoCheapest n p) = (verdict (cheapestPlanTrials s before) (tt {0}) ≡ refuses n p) × (after ≡ before)
 
--- `offered`: 1 to 11, 14, 15; the room for the choice is not asked and stays
-unfoldable pub offeredPlanTrials : List ℕ → List ℕ → Rooms → List Trial
-offeredPlanTrials s offer rooms = offeredTrials s offer ++ (planRoomTrials (nightOf s) (rooms .plan) ++ keysRoomTrials (nightOf s) (rooms .keys))
-
--- the offer's answer as this one
+-- the offer's answer as that of `offered`
 abbrev pub offerPassedUp : Offered → OfferedPlan
 offerPassedUp (Costs total) = OfferedWith total
 offerPassedUp (NotCosted n p) = NoOffered n p
+
+-- `offered`: 1 to 11, 14, 15; the room for the choice is not asked and stays
+unfoldable pub offeredPlanTrials : List ℕ → List ℕ → Rooms → List Trial
+offeredPlanTrials s offer rooms = offeredTrials s offer ++ (planRoomTrials (nightOf s) (rooms .plan) ++ keysRoomTrials (nightOf s) (rooms .keys))
 
 abbrev pub OfferedSays : List ℕ → List ℕ → Rooms → Rooms → OfferedPlan → Type 0
 OfferedSays s offer before after (OfferedWith total′) =

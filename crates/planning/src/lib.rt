@@ -7,7 +7,7 @@ use layout::values;
 use reading::Checked;
 ghost use mathlib.Core.Path.{_≡_};
 ghost use mathlib.Core.List.{[]};
-ghost use Rattle.planning.specs.Answers.{candidatesSaid, candidatesOf, passedUp, Rooms, choicePassedUp, CheapestSays, offerPassedUp, OfferedSays};
+ghost use Rattle.planning.specs.Answers.{candidatesSaid, candidatesOf, passedUp, choicePassedUp, CheapestSays, offerPassedUp, OfferedSays};
 
 // The candidates of a node, as a set of subjects, or the refusal.
 pub enum CandidateSet {

@@ -39,7 +39,7 @@ pub(crate) fn short_of_three(choice: usize, plan: usize, keys: usize, h: Header)
 // The choice's room: a subject for each of the first n nodes; what lies beyond stays.
 pub(crate) fn fill_choice(room: &mut [u8], subjects: [u8; 64], n: u8)
     requires { ⌜ (n ≤ 64) × (n ≤ length (now room)) ⌝ }
-    ensures { λ r. ⌜ now (room .exit) ≡ each n (λ i. getD subjects i 0) ++ drop n (now (room .entry)) ⌝ }
+    ensures { λ _. ⌜ now (room .exit) ≡ each n (λ i. getD subjects i 0) ++ drop n (now (room .entry)) ⌝ }
 {
     let end = n as usize;
     let mut i: usize = 0;
@@ -52,7 +52,7 @@ pub(crate) fn fill_choice(room: &mut [u8], subjects: [u8; 64], n: u8)
 // A room of pairs: the first n of one list and of another, in turn; what lies beyond stays.
 fn fill_pairs(room: &mut [u64], first: [u64; 64], second: [u64; 64], n: u8)
     requires { ⌜ (n ≤ 64) × (2 * n ≤ length (now room)) ⌝ }
-    ensures { λ r. ⌜ now (room .exit) ≡ inTurn (λ i. getD first i 0) (λ i. getD second i 0) n ++ drop (2 * n) (now (room .entry)) ⌝ }
+    ensures { λ _. ⌜ now (room .exit) ≡ inTurn (λ i. getD first i 0) (λ i. getD second i 0) n ++ drop (2 * n) (now (room .entry)) ⌝ }
 {
     let pairs = n as usize;
     let mut i: usize = 0;
@@ -66,7 +66,7 @@ fn fill_pairs(room: &mut [u64], first: [u64; 64], second: [u64; 64], n: u8)
 // The plan's room, and the keys' room, for the choice with these subjects.
 pub(crate) fn fill_plan(file: &[u8], h: Header, choice: &[u8], plan: &mut [u64], keys: &mut [u64])
     requires { ⌜ Promised (nightIn (now file) h) × (2 * h .nodes ≤ length (now plan)) × (2 * h .attributes ≤ length (now keys)) ⌝ }
-    ensures { λ r. ⌜ (now (plan .exit) ≡ planRoom (nightIn (now (file .entry)) h) (built (nightIn (now (file .entry)) h) (λ i. getD (now (choice .entry)) i 0)) ++ drop (2 * h .nodes) (now (plan .entry))) × (now (keys .exit) ≡ keysRoom (nightIn (now (file .entry)) h) (built (nightIn (now (file .entry)) h) (λ i. getD (now (choice .entry)) i 0)) ++ drop (2 * h .attributes) (now (keys .entry))) ⌝ }
+    ensures { λ _. ⌜ (now (plan .exit) ≡ planRoom (nightIn (now (file .entry)) h) (built (nightIn (now (file .entry)) h) (λ i. getD (now (choice .entry)) i 0)) ++ drop (2 * h .nodes) (now (plan .entry))) × (now (keys .exit) ≡ keysRoom (nightIn (now (file .entry)) h) (built (nightIn (now (file .entry)) h) (λ i. getD (now (choice .entry)) i 0)) ++ drop (2 * h .attributes) (now (keys .entry))) ⌝ }
 {
     let opens = built::all_opens(file, h);
     let seals = built::all_seals(file, h);

@@ -1,6 +1,4 @@
 -- The choice's refusal is passed up; then the lowest short room refuses; then the rooms are filled.
-use Prim.Native.Nat.{ℕ}
-use mathlib.Core.Path.{_≡_, refl, sym}
 use denote.Ref.{now}
 use Rattle.layout.specs.Layout.{nightIn, nightOf}
 use Rattle.planning.proofs.Answered.{chosen-promises, cheapest-unchosen, cheapest-short, cheapest-filled}

@@ -1,6 +1,5 @@
 -- The root is told by its number.
 use Rattle.laws.proofs.Cases.{cases}
-use mathlib.Core.Path.{ap}
 use borrow.Author.Needs.{needs}
 use Rattle.keying.proofs.built.seals_of.Statement.{statement}
 use Rattle.keying.proofs.built.seals_of.Tie as tie

@@ -1,7 +1,7 @@
 -- The set grows by one node a turn.
 use native.Mathlib.Omega.{arith}
 use borrow.Author.Needs.{needs}
-use Prim.Native.Nat.{ℕ, _≤_, _-_}
+use Prim.Native.Nat.{_≤_, _-_}
 use mathlib.Core.Path.{_≡_, sym, _∙_}
 use lib.ListN.{getD}
 use Rattle.sets.specs.Sets.{unions}

@@ -1,6 +1,6 @@
 -- Past the end of the array stands the default, 0.
 use native.Mathlib.Omega.{arith}
-use mathlib.Core.Path.{_≡_, sym, _∙_}
+use mathlib.Core.Path.{_≡_, sym}
 use lib.ListN.{length, List·getD-eq-default}
 use borrow.Kind.Array.{eInt, good-length}
 use mir.Syntax.{w64}

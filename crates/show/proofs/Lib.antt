@@ -1,0 +1,2 @@
+-- Rooms that kept what stood in them.
+pub mod Kept

@@ -1,0 +1,2 @@
+-- What the numbers rest on.
+pub mod Coded

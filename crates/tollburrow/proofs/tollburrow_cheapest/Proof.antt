@@ -1,0 +1,62 @@
+-- The lower answer as numbers.
+use mathlib.Core.Path.{refl}
+use borrow.Author.Needs.{needs}
+use Rattle.tollburrow.proofs.tollburrow_cheapest.Statement.{statement}
+use Rattle.tollburrow.proofs.tollburrow_cheapest.Tie as tie
+
+cheapest-requires : tie.Need-cheapest-requires
+cheapest-requires c κs = search needs
+
+enum-known-answer : tie.Need-enum-known-answer
+enum-known-answer c = search needs
+
+enum-told : tie.Need-enum-told
+enum-told c = search needs
+
+cheapest-code-requires : tie.Need-cheapest-code-requires
+cheapest-code-requires c κs = search needs
+
+same-length : tie.Need-same-length
+same-length c = search needs
+
+same-length-2 : tie.Need-same-length-2
+same-length-2 c = search needs
+
+same-length-3 : tie.Need-same-length-3
+same-length-3 c = search needs
+
+returns : tie.Need-returns
+returns c =
+    let lower = c .before .before .before .before .before .before .before .before .before .cheapest in
+    record { said = lower .result; says = lower .ensures; its-code = c .cheapest-code .ensures; its-total = rw (c .before .enum-told .given .1) refl; its-steps = rw (c .before .enum-told .given .1) refl }
+
+same-length-4 : tie.Need-same-length-4
+same-length-4 c = search needs
+
+same-length-5 : tie.Need-same-length-5
+same-length-5 c = search needs
+
+same-length-6 : tie.Need-same-length-6
+same-length-6 c = search needs
+
+returns-2 : tie.Need-returns-2
+returns-2 c =
+    let lower = c .before .before .before .before .before .before .before .before .before .cheapest in
+    record { said = lower .result; says = lower .ensures; its-code = rw (c .before .answer .given .1) refl; its-total = rw (c .before .answer .given .1) refl; its-steps = rw (c .before .answer .given .1) refl }
+
+pub tollburrow-cheapest-spec : {M : Type 1} → statement M
+tollburrow-cheapest-spec =
+    tie.close
+    (tie.spec
+    cheapest-requires
+    enum-known-answer
+    enum-told
+    cheapest-code-requires
+    same-length
+    same-length-2
+    same-length-3
+    returns
+    same-length-4
+    same-length-5
+    same-length-6
+    returns-2)

@@ -1,0 +1,71 @@
+-- What the functions for other languages return: 0, or the refusal's number times 2^32 and its place. What they write where they are refused is what stood there.
+use Prim.Native.Nat.{ℕ, _+_, _-_, _*_}
+use mathlib.Core.Path.{_≡_}
+use mathlib.Core.List.{List}
+use Rattle.laws.specs.Trials.{Says, answers, refuses}
+use Rattle.night.specs.declared.Header.{Header}
+use Rattle.layout.specs.Layout.{grantsFrom, nodesFrom}
+use Rattle.planning.specs.declared.CheapestPlan.{CheapestPlan}
+use Rattle.planning.specs.declared.CheapestPlan.the-variants.{Cheapest, Refused as NoCheapest}
+use Rattle.planning.specs.declared.OfferedPlan.{OfferedPlan}
+use Rattle.planning.specs.declared.OfferedPlan.the-variants.{Offered, Refused as NoOffered}
+use Rattle.planning.specs.Answers.{Rooms, CheapestSays, OfferedSays}
+
+-- a refusal as one number
+abbrev pub refusalCode : ℕ → ℕ → ℕ
+refusalCode n p = n * 4294967296 + p
+
+abbrev pub codeOf : {A : Type 0} → Says A → ℕ
+codeOf (answers a) = 0
+codeOf (refuses n p) = refusalCode n p
+
+-- the same of the answers with rooms
+abbrev pub cheapestCode : CheapestPlan → ℕ
+cheapestCode (Cheapest total steps) = 0
+cheapestCode (NoCheapest n p) = refusalCode n p
+
+abbrev pub offeredCode : OfferedPlan → ℕ
+offeredCode (Offered total) = 0
+offeredCode (NoOffered n p) = refusalCode n p
+
+-- the number that is answered, or what stood there
+abbrev pub orElse : Says ℕ → ℕ → ℕ
+orElse (answers a) before = a
+orElse (refuses n p) before = before
+
+-- where the part of grant records starts, and its length
+abbrev pub partFrom : Says Header → ℕ → ℕ
+partFrom (answers h) before = grantsFrom h
+partFrom (refuses n p) before = before
+
+abbrev pub partLength : Says Header → ℕ → ℕ
+partLength (answers h) before = nodesFrom h - grantsFrom h
+partLength (refuses n p) before = before
+
+-- total and steps that are answered, or what stood there
+abbrev pub totalOr : CheapestPlan → ℕ → ℕ
+totalOr (Cheapest total steps) before = total
+totalOr (NoCheapest n p) before = before
+
+abbrev pub stepsOr : CheapestPlan → ℕ → ℕ
+stepsOr (Cheapest total steps) before = steps
+stepsOr (NoCheapest n p) before = before
+
+abbrev pub costOr : OfferedPlan → ℕ → ℕ
+costOr (Offered total) before = total
+costOr (NoOffered n p) before = before
+
+-- what `cheapest` says, as numbers
+pub record CheapestOut (s : List ℕ) (before after : Rooms) (total steps total′ steps′ code : ℕ) : Type 0 where
+  pub said : CheapestPlan
+  pub says : CheapestSays s before after said
+  pub its-code : code ≡ cheapestCode said
+  pub its-total : total′ ≡ totalOr said total
+  pub its-steps : steps′ ≡ stepsOr said steps
+
+-- what `offered` says, as numbers
+pub record OfferedOut (s offer : List ℕ) (before after : Rooms) (total total′ code : ℕ) : Type 0 where
+  pub said : OfferedPlan
+  pub says : OfferedSays s offer before after said
+  pub its-code : code ≡ offeredCode said
+  pub its-total : total′ ≡ costOr said total

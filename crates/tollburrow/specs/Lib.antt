@@ -1,0 +1,2 @@
+-- What the functions for other languages say.
+pub mod Codes

@@ -1,0 +1,137 @@
+// The planner for programs in C and Rust: every function says 0, or the refusal as its number times 2^32 and its place. A refusal writes nothing anywhere.
+use layout::places;
+use planning::CandidateSet;
+use planning::CheapestPlan;
+use planning::OfferedPlan;
+use reading::Checked;
+ghost use mathlib.Core.Path.{_≡_};
+ghost use mathlib.Core.List.{[]};
+ghost use Prim.Native.Nat.{_+_, _*_};
+ghost use Rattle.reading.specs.Answers.{saidOf, checkOf};
+ghost use Rattle.planning.specs.Answers.{candidatesSaid, candidatesOf, Rooms};
+ghost use Rattle.tollburrow.specs.Codes.{codeOf, orElse, partFrom, partLength, cheapestCode, offeredCode, CheapestOut, OfferedOut};
+
+// A refusal as one number.
+fn code(number: u8, place: u32) -> u64
+    ensures { λ r. ⌜ r ≡ number * 4294967296 + place ⌝ }
+{
+    (number as u64) * 4_294_967_296 + (place as u64)
+}
+
+// What each answer is as a number.
+fn checked_code(answer: Checked) -> u64
+    ensures { λ r. ⌜ r ≡ codeOf (saidOf answer) ⌝ }
+{
+    match answer {
+        Checked::Refused { number, place } => code(number, place),
+        Checked::Accepted(_) => 0,
+    }
+}
+
+fn set_code(answer: CandidateSet) -> u64
+    ensures { λ r. ⌜ r ≡ codeOf (candidatesSaid answer) ⌝ }
+{
+    match answer {
+        CandidateSet::Refused { number, place } => code(number, place),
+        CandidateSet::Among(_) => 0,
+    }
+}
+
+fn cheapest_code(answer: CheapestPlan) -> u64
+    ensures { λ r. ⌜ r ≡ cheapestCode answer ⌝ }
+{
+    match answer {
+        CheapestPlan::Refused { number, place } => code(number, place),
+        CheapestPlan::Cheapest { total: _, steps: _ } => 0,
+    }
+}
+
+fn offered_code(answer: OfferedPlan) -> u64
+    ensures { λ r. ⌜ r ≡ offeredCode answer ⌝ }
+{
+    match answer {
+        OfferedPlan::Refused { number, place } => code(number, place),
+        OfferedPlan::Offered { total: _ } => 0,
+    }
+}
+
+// The verdict on a file.
+#[no_mangle]
+pub extern "C" fn tollburrow_check(file: &[u8]) -> u64
+    ensures { λ r. ⌜ r ≡ codeOf (checkOf (now (file .entry))) ⌝ }
+{
+    checked_code(reading::check(file))
+}
+
+// Where the grant records lie in the file.
+#[no_mangle]
+pub extern "C" fn tollburrow_grant_records(file: &[u8], from: &mut u64, length: &mut u64) -> u64
+    ensures { λ r. ⌜ (r ≡ codeOf (checkOf (now (file .entry)))) × (now (from .exit) ≡ partFrom (checkOf (now (file .entry))) (now (from .entry))) × (now (length .exit) ≡ partLength (checkOf (now (file .entry))) (now (length .entry))) ⌝ }
+{
+    let answer = reading::check(file);
+    let Checked::Accepted(h) = answer else {
+        return checked_code(answer);
+    };
+    let start = places::grants_from(h);
+    let end = places::nodes_from(h);
+    *from = start as u64;
+    *length = (end - start) as u64;
+    0
+}
+
+// The candidates of a node.
+#[no_mangle]
+pub extern "C" fn tollburrow_candidates(file: &[u8], node: usize, set: &mut u16) -> u64
+    ensures { λ r. ⌜ (r ≡ codeOf (candidatesOf (now (file .entry)) node)) × (now (set .exit) ≡ orElse (candidatesOf (now (file .entry)) node) (now (set .entry))) ⌝ }
+{
+    let answer = planning::candidates(file, node);
+    let CandidateSet::Among(among) = answer else {
+        return set_code(answer);
+    };
+    *set = among;
+    0
+}
+
+// The cheapest choice and its plan.
+#[no_mangle]
+pub extern "C" fn tollburrow_cheapest(
+    file: &[u8],
+    choice: &mut [u8],
+    plan: &mut [u64],
+    keys: &mut [u64],
+    total: &mut u64,
+    steps: &mut u32,
+) -> u64
+    ensures { λ r. ⌜ CheapestOut (now (file .entry)) (record { choice = now (choice .entry); plan = now (plan .entry); keys = now (keys .entry) }) (record { choice = now (choice .exit); plan = now (plan .exit); keys = now (keys .exit) }) (now (total .entry)) (now (steps .entry)) (now (total .exit)) (now (steps .exit)) r ⌝ }
+{
+    let answer = planning::cheapest(file, choice, plan, keys);
+    let CheapestPlan::Cheapest {
+        total: cost,
+        steps: counted,
+    } = answer
+    else {
+        return cheapest_code(answer);
+    };
+    *total = cost;
+    *steps = counted;
+    0
+}
+
+// The plan for an offered choice.
+#[no_mangle]
+pub extern "C" fn tollburrow_offered(
+    file: &[u8],
+    offer: &[u8],
+    plan: &mut [u64],
+    keys: &mut [u64],
+    total: &mut u64,
+) -> u64
+    ensures { λ r. ⌜ OfferedOut (now (file .entry)) (now (offer .entry)) (record { choice = []; plan = now (plan .entry); keys = now (keys .entry) }) (record { choice = []; plan = now (plan .exit); keys = now (keys .exit) }) (now (total .entry)) (now (total .exit)) r ⌝ }
+{
+    let answer = planning::offered(file, offer, plan, keys);
+    let OfferedPlan::Offered { total: cost } = answer else {
+        return offered_code(answer);
+    };
+    *total = cost;
+    0
+}

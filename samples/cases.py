@@ -1,0 +1,45 @@
+#!/usr/bin/env python3
+"""Writes the cases that the program answers is run on, and what document 01 says of each, by hand. Run from the repository's root."""
+import struct
+
+from night import sample
+
+PLANNED = """node 0 subject 0 opens - seals 0,2,3
+node 1 subject %d opens - seals -
+node 2 subject 1 opens - seals 4,5
+node 3 subject 3 opens - seals -
+node 4 subject 3 opens - seals -
+node 5 subject 4 opens 5 seals -
+key 0 attributes 0,4 holders 0,1
+key 2 attributes 2 holders 0
+key 3 attributes 3 holders 0
+key 5 attributes 5 holders 1,4
+"""
+CANDIDATES = """candidates 0 -
+candidates 1 0,1,2,3,4,5
+candidates 2 -
+candidates 3 0,2,3,4,5
+candidates 4 0,2,3,4,5
+candidates 5 2,4
+"""
+SAMPLE = "grants 33 252\n" + CANDIDATES
+# file, offer, lengths of the rooms, the lines after `case K`
+CASES = [
+    (sample(), bytes([0, 1, 1, 3, 3, 4]), (64, 128, 128), SAMPLE + "total 14 steps 76\n" + PLANNED % 0 + "offered total 18\n" + PLANNED % 1 + "rooms kept\n"),
+    (sample(), bytes(5), (5, 12, 12), SAMPLE + "refused 15 place 1\noffered refused 14 place 6\nrooms kept\n"),
+    (sample()[:740], b"", (0, 0, 0), "grants refused 3 place 0\ncandidates refused 3 place 0\nrefused 3 place 0\noffered refused 3 place 0\nrooms kept\n"),
+]
+
+
+def main():
+    with open("crates/answers/stdin", "wb") as given, open("crates/answers/stdout", "w", encoding="ascii") as expected:
+        for k, (file, offer, rooms, said) in enumerate(CASES):
+            given.write(struct.pack(">IIHHH", len(file), len(offer), *rooms) + file + offer)
+            expected.write("case %d\n%s" % (k, said))
+        # a case that is cut off ends the run
+        given.write(struct.pack(">IIHHH", 741, 0, 64, 128, 128) + sample()[:100])
+        expected.write("cut\n")
+
+
+if __name__ == "__main__":
+    main()
