@@ -1,6 +1,6 @@
 -- Two answers that the promises admit, case by case.
 use Prim.Native.Nat.{ℕ, _<_}
-use mathlib.Core.Path.{_≡_, refl, sym, _∙_}
+use mathlib.Core.Path.{_≡_, refl, sym, ap, _∙_}
 use mathlib.Core.List.{List}
 use Rattle.laws.specs.Trials.{Trial, Says, answers, refuses, verdict}
 use Rattle.laws.proofs.Trials.{never}
@@ -15,7 +15,9 @@ use Rattle.planning.specs.Answers.{Rooms, Filled, CheapestFilled, cheapestPlanT
 use Rattle.planning.specs.declared.CheapestPlan.{CheapestPlan}
 use Rattle.planning.specs.declared.CheapestPlan.the-variants.{Cheapest, Refused as NoCheapest}
 use Rattle.planning.specs.declared.OfferedPlan.the-variants.{Offered, Refused as NoOffered}
-use Rattle.demands.specs.Once.{CheapestPlanOnce, OfferedPlanOnce}
+use Rattle.planning.specs.declared.OfferedPlan.{OfferedPlan}
+use Rattle.tollburrow.specs.Codes.{cheapestCode, offeredCode, totalOr, stepsOr, costOr}
+use Rattle.demands.specs.Once.{CheapestPlanOnce, OfferedPlanOnce, CheapestOutOnce, OfferedOutOnce}
 
 -- a row of trials either passes or refuses, and with one number and place
 not-both : (ts : List Trial) (n p : ℕ) → verdict ts (tt {0}) ≡ answers tt → verdict ts (tt {0}) ≡ refuses n p → ⊥
@@ -64,3 +66,22 @@ offered-once s offer before x y (NoOffered n p) (Offered t) u v = absurd (not-bo
 offered-once s offer before x y (NoOffered n p) (NoOffered m q) u v =
     let same = one-refusal (offeredPlanTrials s offer before) n p m q (u .0) (v .0) in
     (rw (same .0, same .1) refl, u .1 ∙ sym (v .1))
+
+pub cheapest-out-once : CheapestOutOnce
+cheapest-out-once s before x y total steps t k code t′ k′ code′ u v =
+    let same = cheapest-once s before x y (u .said) (v .said) (u .says) (v .says) in
+    (
+      same .1,
+      u .its-total ∙ ap (λ (a : CheapestPlan). totalOr a total) (same .0) ∙ sym (v .its-total),
+      u .its-steps ∙ ap (λ (a : CheapestPlan). stepsOr a steps) (same .0) ∙ sym (v .its-steps),
+      u .its-code ∙ ap cheapestCode (same .0) ∙ sym (v .its-code),
+    )
+
+pub offered-out-once : OfferedOutOnce
+offered-out-once s offer before x y total t code t′ code′ u v =
+    let same = offered-once s offer before x y (u .said) (v .said) (u .says) (v .says) in
+    (
+      same .1,
+      u .its-total ∙ ap (λ (a : OfferedPlan). costOr a total) (same .0) ∙ sym (v .its-total),
+      u .its-code ∙ ap offeredCode (same .0) ∙ sym (v .its-code),
+    )
