@@ -19,7 +19,7 @@ use Rattle.night.specs.Night.{Night, nodeOf, stepPrice}
 use Rattle.night.specs.Kinds.{usesLeft, usesRight}
 use Rattle.night.specs.Promised.{Promised}
 use Rattle.model.specs.declared.Best.{Best}
-use Rattle.model.specs.Dp.{subjectsOf, better, offered, bestOf, noRow, bestChild, rowEntry, rowStep, costRows, giveChild, giveBoth, giveDown, bestLast}
+use Rattle.model.specs.Dp.{subjectsOf, better, handedOn, bestOf, noRow, bestChild, rowEntry, rowStep, costRows, giveChild, giveBoth, giveDown, bestLast}
 use Rattle.model.proofs.CostRows.{subject-there}
 use Rattle.model.proofs.Follows.{down-more}
 use Rattle.model.proofs.Weight.{best-most, row-most, offer-most}
@@ -47,7 +47,7 @@ module _ (N : Night) (i : ℕ) (rows : List (List ℕ)) (has : HasRows N i rows)
 
     -- nothing is handed on
     pub fits-alone : Fits N (getD rows k noRow) (subjectsOf N k) 0 0
-    unfolding offered
+    unfolding handedOn
     fits-alone t g e = rw (has .held k, zero-mul) (omega (arith, row-most N sound i k t l))
 
   -- node i's entry from its parts
@@ -124,8 +124,8 @@ best-below N row among size s (suc k) m p h = go (member among k) refl (best-bel
     b : Best
     b = bestOf N row among size s k
 
-    go : (x : Bool) → member among k ≡ x → b .lowest < m → (if x then better b (offered N row size s k) k else b) .lowest < m
-    go true e r = better-below b (offered N row size s k) k m (h k (omega arith) (member-in among k e)) r
+    go : (x : Bool) → member among k ≡ x → b .lowest < m → (if x then better b (handedOn N row size s k) k else b) .lowest < m
+    go true e r = better-below b (handedOn N row size s k) k m (h k (omega arith) (member-in among k e)) r
     go false e r = r
 
 module _ (N : Night) (sound : Promised N) where

@@ -6,7 +6,7 @@ use lib.ListN.{length, getD}
 use Rattle.laws.specs.Upwards.{upwards, each}
 use Rattle.sets.specs.Sets.{In}
 use Rattle.night.specs.Night.{Night}
-use Rattle.model.specs.Dp.{subjectsOf, offered, noRow, rowStep}
+use Rattle.model.specs.Dp.{subjectsOf, handedOn, noRow, rowStep}
 
 -- the subjects of every node
 abbrev pub HasSets : Night → List ℕ → Type 0
@@ -19,7 +19,7 @@ pub record HasRows (N : Night) (i : ℕ) (rows : List (List ℕ)) : Type 0 where
 
 -- what any subject of the set costs by its row, handed over, is far less than a number of 64 bits holds
 abbrev pub Fits : Night → List ℕ → ℕ → ℕ → ℕ → Type 0
-Fits N row among size s = (t : ℕ) → t < 16 → In t among → offered N row size s t ≤ 129064000000
+Fits N row among size s = (t : ℕ) → t < 16 → In t among → handedOn N row size s t ≤ 129064000000
 
 -- a subject of the night for each node, and 0 past the last node
 pub record Given (N : Night) (c : List ℕ) : Type 0 where

@@ -9,9 +9,8 @@ use Rattle.laws.specs.Trials.{trial, answers, Passes}
 use Rattle.laws.specs.Upwards.{each}
 use Rattle.laws.proofs.Trials.{passed, passes-accepts, passes-append, passes-row, accepted-alike}
 use Rattle.laws.proofs.Upwards.{each-at, each-length}
-use Rattle.sets.specs.Sets.{In}
 use Rattle.night.specs.declared.Header.{Header}
-use Rattle.night.specs.Night.{Night, nodeOf}
+use Rattle.night.specs.Night.{Night}
 use Rattle.night.specs.Promised.{Promised}
 use Rattle.layout.specs.Layout.{headerOf, nightOf}
 use Rattle.reading.specs.Trials.{trials}
@@ -21,7 +20,7 @@ use Rattle.model.specs.Candidates.{candidateSet}
 use Rattle.model.specs.Choice.{Choice, Admissible}
 use Rattle.model.specs.Refusals.{offerBad, offerTrials}
 use Rattle.model.specs.Plan.{built, nameIn, holdersIn, inTurn, planRoom, keysRoom}
-use Rattle.model.specs.Run.{Clean, keyOf, holders}
+use Rattle.model.specs.Run.{keyOf, holders}
 use Rattle.model.specs.Demand.{Assigned, FromCandidates}
 use Rattle.model.proofs.Weight.{d-there}
 use Rattle.model.proofs.Turns.{turn-same, turn-at}
@@ -63,8 +62,8 @@ demand3 s h e c assigned =
 pub by-answers : ByAnswers
 by-answers s h e c assigned answer said =
     let exactly = demand3 s h e c assigned .0 in (
-      λ run i set l step q. exactly .0 run i set l step (sym (said i) ∙ ap candidatesSaid q),
-      λ from. exactly .1 (λ i set l step q. from i set l step (candidates-once (answer i) (Among set) (said i ∙ q))),
+      λ run i set l step q. exactly .0 run i set l step (sym (said i l) ∙ ap candidatesSaid q),
+      λ from. exactly .1 (λ i set l step q. from i set l step (candidates-once (answer i) (Among set) (said i l ∙ q))),
     )
 
 -- what stands in the rooms
@@ -92,7 +91,7 @@ module _ (s : List ℕ) (sound : Promised (nightOf s)) (c : Choice) (A : Admissi
       record {
         clean = clean-same N (built N c) (planIn subjects (after .plan)) alike sound (built-runs N sound c assigned (A .step));
         names = λ k l. keyed k l .0 ∙ keys-agree N sound (built N c) k .0 ∙ key-same N (built N c) (planIn subjects (after .plan)) alike k;
-        held = λ k l. keyed k l .1 ∙ keys-agree N sound (built N c) k .1 ∙ holders-same N (built N c) (planIn subjects (after .plan)) alike k;
+        holding = λ k l. keyed k l .1 ∙ keys-agree N sound (built N c) k .1 ∙ holders-same N (built N c) (planIn subjects (after .plan)) alike k;
       }
 
 -- a file whose trials passed is accepted

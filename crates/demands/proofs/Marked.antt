@@ -27,9 +27,9 @@ use Rattle.model.specs.Ties.{gathered, tie, merged}
 use Rattle.model.specs.Tables.{blank, leastView, tests, ties, joined, result, leafTable, stepTable, tableStep, tables, tableOf}
 use Rattle.model.specs.Candidates.{clearOffends, sealedOffends, tiedOffends, may, mayTake, isCandidate, candidateSet}
 use Rattle.model.specs.Choice.{Choice, AllHave, Least, total, weight, stepsAt, steps}
-use Rattle.model.specs.Dp.{subjectsOf, better, offered, bestOf, bestChild, rowEntry, rowStep, costRows, bestLast}
+use Rattle.model.specs.Dp.{subjectsOf, better, handedOn, bestOf, bestChild, rowEntry, rowStep, costRows, bestLast}
 use Rattle.model.specs.Refusals.{withoutCandidate}
-use Rattle.model.proofs.Dp.{dp-least, chosen-total}
+use Rattle.model.proofs.Dp.{dp-least, least-there, chosen-total}
 use Rattle.reading.specs.Sample.{sample}
 use Rattle.reading.proofs.Opened.{accepted-header}
 use Rattle.reading.proofs.Promises.{accepted-promises}
@@ -69,7 +69,7 @@ unfolding anyOf be first somewhere upwards bit member union meet minus within si
 none-without = refl
 
 least-is : bestLast sampleNight (costRows sampleNight) .least ≡ 14
-unfolding anyOf be first somewhere upwards bit member union meet minus within single unions grantOf nodeOf usesRight reads readTogether visibleAfter isFor grantFor viewOf clearOf sealedOf grantsFrom nodesFrom stepPricesFrom linkPricesFrom headerOf relationAt grantAt nodeAt pricesAt nightIn gathered tie merged leastView tests ties joined result leafTable stepTable tableStep tables tableOf clearOffends sealedOffends tiedOffends may mayTake isCandidate candidateSet sample sampleNight relationOf stepPrice linkPrice usesLeft subjectsOf better offered bestOf bestChild rowEntry rowStep costRows bestLast
+unfolding anyOf be first somewhere upwards bit member union meet minus within single unions grantOf nodeOf usesRight reads readTogether visibleAfter isFor grantFor viewOf clearOf sealedOf grantsFrom nodesFrom stepPricesFrom linkPricesFrom headerOf relationAt grantAt nodeAt pricesAt nightIn gathered tie merged leastView tests ties joined result leafTable stepTable tableStep tables tableOf clearOffends sealedOffends tiedOffends may mayTake isCandidate candidateSet sample sampleNight relationOf stepPrice linkPrice usesLeft subjectsOf better handedOn bestOf bestChild rowEntry rowStep costRows bestLast
 least-is = refl
 
 -- the choice that is worked out costs that, and so does every other cheapest choice
@@ -120,6 +120,7 @@ marked =
       node-4 = of-bytes 4 61 (ap (λ (l : List ℕ). getD l 2 0) sets);
       node-5 = of-bytes 5 20 (ap (λ (l : List ℕ). getD l 3 0) sets);
       steps-all = rw decoded steps-are;
+      least-there = rw decoded (least-there sampleNight sound have);
       total-least = rw decoded total-of;
       function-ties = function-tied;
     }

@@ -69,8 +69,7 @@ offered-once s offer before x y (NoOffered n p) (NoOffered m q) u v =
 
 pub cheapest-out-once : CheapestOutOnce
 cheapest-out-once s before x y total steps t k code t′ k′ code′ u v =
-    let same = cheapest-once s before x y (u .said) (v .said) (u .says) (v .says) in
-    (
+    let same = cheapest-once s before x y (u .said) (v .said) (u .says) (v .says) in (
       same .1,
       u .its-total ∙ ap (λ (a : CheapestPlan). totalOr a total) (same .0) ∙ sym (v .its-total),
       u .its-steps ∙ ap (λ (a : CheapestPlan). stepsOr a steps) (same .0) ∙ sym (v .its-steps),
@@ -79,8 +78,7 @@ cheapest-out-once s before x y total steps t k code t′ k′ code′ u v =
 
 pub offered-out-once : OfferedOutOnce
 offered-out-once s offer before x y total t code t′ code′ u v =
-    let same = offered-once s offer before x y (u .said) (v .said) (u .says) (v .says) in
-    (
+    let same = offered-once s offer before x y (u .said) (v .said) (u .says) (v .says) in (
       same .1,
       u .its-total ∙ ap (λ (a : OfferedPlan). costOr a total) (same .0) ∙ sym (v .its-total),
       u .its-code ∙ ap offeredCode (same .0) ∙ sym (v .its-code),

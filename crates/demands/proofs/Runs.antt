@@ -1,23 +1,21 @@
 -- The runs on small nights, by computation.
-use Prim.Native.Nat.{ℕ, _<_, _+_}
+use Prim.Native.Nat.{ℕ}
 use mathlib.Core.Path.{_≡_, refl, sym}
-use mathlib.Core.Bool.{true, false, not}
 use mathlib.Core.List.{List, [], _∷_}
 use native.Mathlib.Omega.{arith}
-use lib.Dec.{eqb}
 use lib.ListN.{getD}
-use lib.Count.{trailingZeros, ones}
-use Rattle.laws.specs.Choose.{anyOf, if_then_else_}
+use lib.Count.{trailingZeros}
+use Rattle.laws.specs.Choose.{anyOf}
 use Rattle.laws.specs.First.{first, somewhere}
 use Rattle.laws.specs.Upwards.{upwards}
-use Rattle.sets.specs.Sets.{bit, member, union, meet, minus, within, apart, single, unions, lowest, size}
-use Rattle.night.specs.Night.{Night, relationOf, grantOf, nodeOf}
+use Rattle.sets.specs.Sets.{bit, member, union, meet, minus, within, apart, single, unions, lowest}
+use Rattle.night.specs.Night.{relationOf, grantOf, nodeOf}
 use Rattle.night.specs.Kinds.{usesLeft, usesRight, reads, readTogether, visibleAfter, visibleStep, visibles}
 use Rattle.night.specs.Views.{isFor, grantFor, viewOf, clearOf, sealedOf}
 use mathlib.Core.Logic.{inl, inr}
 use Rattle.model.specs.Linked.{one, step}
-use Rattle.model.specs.Keys.{Plan, events, everSealed, groupOf, keyName, holdersOf, keyHolders}
-use Rattle.model.specs.Run.{Form, absent, clear, sealed, testedBy, tiedBy, Tested, Tied, spreadOver, spread, spreadTimes, reached, keyOf, holders, leaving, openedBy, together, leafHeld, resultOver, arriving, heldStep, helds, resultOf, leftArrives, rightArrives, leftOpened, rightOpened, arrived, opened, Stuck, seals-unclear, opens-unsealed, opens-unheld, needs-unclear, mixes, Forbidden, clear-column, clear-test, sealed-column, sealed-test, tied-apart, Clean}
+use Rattle.model.specs.Keys.{events, everSealed, groupOf, keyName, holdersOf, keyHolders}
+use Rattle.model.specs.Run.{absent, clear, sealed, testedBy, tiedBy, Tested, Tied, spreadOver, spread, spreadTimes, reached, keyOf, holders, leaving, openedBy, together, leafHeld, resultOver, arriving, heldStep, helds, resultOf, leftArrives, rightArrives, leftOpened, rightOpened, arrived, opened, seals-unclear, opens-unsealed, needs-unclear, mixes, clear-column, clear-test, sealed-column, sealed-test, tied-apart, Clean}
 use Rattle.model.specs.Ties.{gathered, tie, merged}
 use Rattle.model.specs.Tables.{leastView, tests, ties, joined, result, leafTable, stepTable, tableStep, tables, tableOf}
 use Rattle.model.specs.Candidates.{clearOffends, sealedOffends, tiedOffends, may, mayTake, isCandidate, candidateSet}
@@ -29,7 +27,7 @@ use Rattle.model.proofs.Demand.{built-runs}
 use Rattle.choosing.proofs.Answered.{none-below, offer-admissible}
 use Rattle.demands.specs.SampleNight.{sampleNight}
 use Rattle.demands.proofs.Marked.{sound}
-use Rattle.demands.specs.Runs.{node, leaf, project, select, compare, join, count, function, seen, plan, ToOther, Runs}
+use Rattle.demands.specs.Runs.{leaf, seen, plan, Runs}
 
 not-clear : (k : ℕ) → sealed k ≡ clear → ⊥
 not-clear k e = let z : _≡_ {A = ℕ} 0 1 = cc in omega arith

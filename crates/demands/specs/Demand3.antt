@@ -18,9 +18,7 @@ use Rattle.model.specs.Run.{Clean, keyOf, holders}
 use Rattle.model.specs.Demand.{Assigned}
 use Rattle.planning.specs.declared.CandidateSet.{CandidateSet}
 use Rattle.planning.specs.declared.CandidateSet.the-variants.{Among}
-use Rattle.planning.specs.declared.CheapestPlan.{CheapestPlan}
 use Rattle.planning.specs.declared.CheapestPlan.the-variants.{Cheapest}
-use Rattle.planning.specs.declared.OfferedPlan.{OfferedPlan}
 use Rattle.planning.specs.declared.OfferedPlan.the-variants.{Offered}
 use Rattle.planning.specs.Answers.{candidatesSaid, candidatesOf, Rooms, CheapestSays, OfferedSays}
 
@@ -36,11 +34,11 @@ Demand3 =
     → Clean (nightOf s) (built (nightOf s) c)
     × (keysRoom (nightOf s) (built (nightOf s) c) ≡ inTurn (keyOf (nightOf s) (built (nightOf s) c)) (holders (nightOf s) (built (nightOf s) c)) (nightOf s .header .attributes)))
 
--- the same with the very sets that `candidates` answers
+-- the first part with the very sets that `candidates` answers
 abbrev pub ByAnswers : Type 0
 ByAnswers =
     (s : List ℕ) (h : Header) → checkOf s ≡ answers h → (c : Choice) → Assigned (nightOf s) c
-    → (answer : ℕ → CandidateSet) → ((i : ℕ) → candidatesSaid (answer i) ≡ candidatesOf s i)
+    → (answer : ℕ → CandidateSet) → ((i : ℕ) → i < nightOf s .header .nodes → candidatesSaid (answer i) ≡ candidatesOf s i)
     → ((opens : ℕ → ℕ) × (seals : ℕ → ℕ) × Clean (nightOf s) (record { subject = c; opens = opens; seals = seals }))
     ↔ ((i set : ℕ) → i < nightOf s .header .nodes → (nodeOf (nightOf s) i .kind ≡ 0 → ⊥) → answer i ≡ Among set → In (c i) set)
 
@@ -52,7 +50,7 @@ planIn subjects plan = record { subject = λ i. getD subjects i 0; opens = λ i.
 pub record RunsWith (s subjects : List ℕ) (after : Rooms) : Type 0 where
   pub clean : Clean (nightOf s) (planIn subjects (after .plan))
   pub names : (k : ℕ) → k < nightOf s .header .attributes → getD (after .keys) (2 * k) 0 ≡ keyOf (nightOf s) (planIn subjects (after .plan)) k
-  pub held : (k : ℕ) → k < nightOf s .header .attributes → getD (after .keys) (2 * k + 1) 0 ≡ holders (nightOf s) (planIn subjects (after .plan)) k
+  pub holding : (k : ℕ) → k < nightOf s .header .attributes → getD (after .keys) (2 * k + 1) 0 ≡ holders (nightOf s) (planIn subjects (after .plan)) k
 
 -- whenever `cheapest` answers, what stands in the rooms runs so
 abbrev pub CheapestRuns : Type 0

@@ -57,8 +57,9 @@ pub record Marked : Type 0 where
   pub node-3 : candidatesOf sample 3 ≡ answers 61
   pub node-4 : candidatesOf sample 4 ≡ answers 61
   pub node-5 : candidatesOf sample 5 ≡ answers 20
-  -- steps 76; the cheapest choice's total is 14
+  -- steps 76; there is a cheapest choice, and its total is 14
   pub steps-all : steps (nightOf sample) ≡ 76
+  pub least-there : (c : Choice) × Least (nightOf sample) c
   pub total-least : (c : Choice) → Least (nightOf sample) c → total (nightOf sample) c ≡ 14
   -- a user function over {a} ties {a}
   pub function-ties : (a : ℕ) → a < 64 → getD (stepTable (functionOver a) (operandOf a) blank .tied) a 0 ≡ single 64 a

@@ -1,4 +1,4 @@
--- Runs on small nights: one for each way to be stuck, one for each way to be forbidden, keys over a chain, and the sample night's plan.
+-- Runs on small nights: one for each way to be stuck that keys by the rule leave, one for each way to be forbidden, keys over a chain, and the sample night's plan.
 use Prim.Native.Nat.{ℕ}
 use mathlib.Core.Path.{_≡_}
 use mathlib.Core.List.{List, [], _∷_}
@@ -17,7 +17,7 @@ abbrev pub node : ℕ → ℕ → ℕ → ℕ → ℕ → ℕ → ℕ → Node
 node kind left right x y set needed =
     record { kind = kind; left = left; right = right; x = x; y = y; spare1 = 0; spare2 = 0; spare3 = 0; set = set; needed = needed; size = 0 }
 
--- one of each kind that the nights here have
+-- the kinds that the nights here have
 abbrev pub leaf : ℕ → ℕ → Node
 leaf relation set = node 0 255 255 relation 255 set 0
 
@@ -32,9 +32,6 @@ compare left x y = node 3 left 255 x y 0 0
 
 abbrev pub join : ℕ → ℕ → ℕ → ℕ → Node
 join left right x y = node 5 left right x y 0 0
-
-abbrev pub count : ℕ → ℕ → Node
-count left set = node 7 left 255 255 255 set 0
 
 abbrev pub function : ℕ → ℕ → ℕ → Node
 function left set x = node 8 left 255 x 255 set 0
@@ -60,7 +57,7 @@ seen P E nodes =
 unfoldable pub plan : List ℕ → List ℕ → List ℕ → Plan
 plan subjects opens seals = record { subject = λ i. getD subjects i 0; opens = λ i. getD opens i 0; seals = λ i. getD seals i 0 }
 
--- the table is forbidden to subject 1, or not
+-- the table is forbidden to subject 1
 abbrev pub ToOther : Night → Held → Type 0
 ToOther N t = Forbidden N t (clearOf N 1) (sealedOf N 1)
 

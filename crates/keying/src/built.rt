@@ -31,7 +31,7 @@ fn seals_of(file: &[u8], h: Header, i: usize) -> u64
     t.clear
 }
 
-// What each node opens; nothing past the last node.
+// What each node needs, which is what it opens in the plan of an accepted file; nothing past the last node.
 pub fn all_opens(file: &[u8], h: Header) -> [u64; 64]
     ensures { λ r. ⌜ r ≡ each 64 (λ i. nodeOf (nightIn (now (file .entry)) h) i .needed) ⌝ }
 {
@@ -44,7 +44,7 @@ pub fn all_opens(file: &[u8], h: Header) -> [u64; 64]
     opens
 }
 
-// What each node seals; nothing past the last node.
+// What each node has in clear, but for the root: what it seals in the plan of an accepted file; nothing past the last node.
 pub fn all_seals(file: &[u8], h: Header) -> [u64; 64]
     ensures { λ r. ⌜ r ≡ each 64 (λ i. if eqb (i + 1) (h .nodes) then 0 else tableOf (nightIn (now (file .entry)) h) i .clear) ⌝ }
 {

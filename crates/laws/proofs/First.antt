@@ -1,5 +1,5 @@
 -- How a loop that looks for the first number is proved, and what the number is.
-use Prim.Native.Nat.{ℕ, zero, suc, _+_, _<_}
+use Prim.Native.Nat.{ℕ, zero, suc, _+_, _-_, _<_, _≤_}
 use mathlib.Core.Path.{_≡_, refl}
 use mathlib.Core.Bool.{Bool, true, false}
 use native.Mathlib.Numerals.{add-one}
@@ -91,3 +91,23 @@ none-before p (suc n) h = rw (le-ltb (first p n) n (omega (arith, none-before p 
 
 pub nowhere : (p : ℕ → Bool) (n : ℕ) → ((k : ℕ) → k < n → p k ≡ false) → somewhere p n ≡ false
 nowhere p n h = somewhere-none p n n (none-before p n h) refl
+
+-- two tests that agree below n have the same first
+pub first-same : (p q : ℕ → Bool) (n : ℕ) → ((k : ℕ) → k < n → p k ≡ q k) → first p n ≡ first q n
+unfolding first
+first-same p q zero h = refl
+first-same p q (suc n) h = rw (first-same p q n (λ k l. h k (omega arith)), h n (omega arith)) refl
+
+-- a stretch of m numbers from i on, where the test holds at none below i: at none before the first of the stretch, and then at that
+module _ (p : ℕ → Bool) (i m : ℕ) (h : first p i ≡ i) where
+  pub stretch-none : (j : ℕ) → j ≤ first (λ k. p (i + k)) m → first p (i + j) ≡ i + j
+  stretch-none j l = none-before p (i + j) (λ k b. go k b (ltb k i) refl)
+    where
+      go : (k : ℕ) → k < i + j → (b : Bool) → ltb k i ≡ b → p k ≡ false
+      go k b true e = first-below p i k (omega (arith, ltb-true k i e))
+      go k b false e =
+          let same : i + (k - i) ≡ k = omega (arith, ltb-false k i e) in
+          rw same at (first-below (λ k. p (i + k)) m (k - i) (omega (arith, ltb-false k i e)))
+
+  pub stretch-found : (n : ℕ) → first (λ k. p (i + k)) m < m → i + m ≤ n → first p n ≡ i + first (λ k. p (i + k)) m
+  stretch-found n l b = first-found p (i + first (λ k. p (i + k)) m) n (stretch-none (first (λ k. p (i + k)) m) (omega arith)) (first-holds (λ k. p (i + k)) m l) (omega arith)

@@ -6,3 +6,4 @@ pub mod Upwards
 pub mod Front
 pub mod BigEndian
 pub mod Sums
+pub mod Lent

@@ -1,9 +1,9 @@
 -- What stands at each number of a section, and past it.
-use Prim.Native.Nat.{ℕ, _+_, _*_, _<_, _≤_}
-use mathlib.Core.Path.{_≡_, refl}
+use Prim.Native.Nat.{ℕ, suc, _+_, _*_, _<_, _≤_}
+use mathlib.Core.Path.{_≡_, refl, sym, ap, _∙_}
 use mathlib.Core.Bool.{Bool, true, false}
 use mathlib.Core.List.{List, []}
-use native.Mathlib.Nat.{mul-le-mul}
+use native.Mathlib.Nat.{mul-le-mul, suc-mul}
 use native.Mathlib.Omega.{arith}
 use lib.Dec.{ltb}
 use lib.ListN.{getD}
@@ -13,11 +13,15 @@ use Rattle.laws.specs.Upwards.{each}
 use Rattle.laws.proofs.Upwards.{each-at, each-past}
 use Rattle.night.specs.declared.Header.{Header}
 use Rattle.night.specs.Night.{relationOf, grantOf, nodeOf, stepPrice, linkPrice, noRelation, noGrant, noNode}
-use Rattle.layout.specs.Layout.{grantsFrom, nodesFrom, stepPricesFrom, linkPricesFrom, relationAt, grantAt, nodeAt, pricesAt, nightIn}
+use Rattle.layout.specs.Layout.{grantsFrom, nodesFrom, stepPricesFrom, linkPricesFrom, relationAt, grantAt, nodeAt, pricesAt, nthPrice, nightIn}
 
 -- the product of two numbers below 256
 pub product-lt : (a b : ℕ) → a < 256 → b < 256 → a * b < 65536
 product-lt a b h k = omega (arith, mul-le-mul {n₁ = a} {m₁ = b} {n₂ = 255} {m₂ = 255} (omega arith) (omega arith))
+
+-- a row and a column have a number below the count
+cell-lt : (rows columns i p : ℕ) → i < rows → p < columns → i * columns + p < rows * columns
+cell-lt rows columns i p l k = omega (arith, suc-mul i columns, mul-le-mul {n₁ = suc i} {m₁ = columns} {n₂ = rows} {m₂ = columns} l (omega arith))
 
 -- a table of prices: at a row and a column, past the rows, past the columns
 module _ (s : List ℕ) (at rows columns i p : ℕ) where
@@ -44,6 +48,16 @@ module _ (s : List ℕ) (at rows columns i p : ℕ) where
       go true e = rw (row (ltb-true i rows e)) (each-past (price i) 0 p columns k)
       go false e = price-past-rows (ltb-false i rows e)
 
+-- a price by its number among all
+module _ (s : List ℕ) (h : Header) (i : ℕ) where
+  pub price-in : i < h .nodes * h .subjects + h .subjects * h .subjects → nthPrice s h i ≡ be s (stepPricesFrom h + 4 * i) 4
+  unfolding nthPrice
+  price-in l = each-at (λ k. be s (stepPricesFrom h + 4 * k) 4) 0 i (h .nodes * h .subjects + h .subjects * h .subjects) l
+
+  pub price-past : h .nodes * h .subjects + h .subjects * h .subjects ≤ i → nthPrice s h i ≡ 0
+  unfolding nthPrice
+  price-past l = each-past (λ k. be s (stepPricesFrom h + 4 * k) 4) 0 i (h .nodes * h .subjects + h .subjects * h .subjects) l
+
 module _ (s : List ℕ) (h : Header) (i : ℕ) where
   pub relation-at : i < h .relations → relationOf (nightIn s h) i ≡ relationAt s (15 + 9 * i)
   unfolding relationOf nightIn
@@ -69,9 +83,11 @@ module _ (s : List ℕ) (h : Header) (i : ℕ) where
   unfolding nodeOf nightIn
   node-past l = each-past (λ k. nodeAt s (nodesFrom h + 28 * k)) noNode i (h .nodes) l
 
-  pub step-price-at : (p : ℕ) → i < h .nodes → p < h .subjects → stepPrice (nightIn s h) i p ≡ be s (stepPricesFrom h + 4 * (i * h .subjects + p)) 4
+  pub step-price-in : (p : ℕ) → i < h .nodes → p < h .subjects → stepPrice (nightIn s h) i p ≡ nthPrice s h (i * h .subjects + p)
   unfolding stepPrice nightIn
-  step-price-at p = price-at s (stepPricesFrom h) (h .nodes) (h .subjects) i p
+  step-price-in p l k =
+      price-at s (stepPricesFrom h) (h .nodes) (h .subjects) i p l k
+      ∙ sym (price-in s h (i * h .subjects + p) (omega (arith, cell-lt (h .nodes) (h .subjects) i p l k)))
 
   pub step-price-past-nodes : (p : ℕ) → h .nodes ≤ i → stepPrice (nightIn s h) i p ≡ 0
   unfolding stepPrice nightIn
@@ -81,9 +97,13 @@ module _ (s : List ℕ) (h : Header) (i : ℕ) where
   unfolding stepPrice nightIn
   step-price-past-subjects p = price-past-columns s (stepPricesFrom h) (h .nodes) (h .subjects) i p
 
-  pub link-price-at : (q : ℕ) → i < h .subjects → q < h .subjects → linkPrice (nightIn s h) i q ≡ be s (linkPricesFrom h + 4 * (i * h .subjects + q)) 4
-  unfolding linkPrice nightIn
-  link-price-at q = price-at s (linkPricesFrom h) (h .subjects) (h .subjects) i q
+  pub link-price-in : (q : ℕ) → i < h .subjects → q < h .subjects → linkPrice (nightIn s h) i q ≡ nthPrice s h (h .nodes * h .subjects + (i * h .subjects + q))
+  unfolding linkPrice nightIn linkPricesFrom
+  link-price-in q l k =
+      let behind : linkPricesFrom h + 4 * (i * h .subjects + q) ≡ stepPricesFrom h + 4 * (h .nodes * h .subjects + (i * h .subjects + q)) = omega arith in
+      price-at s (linkPricesFrom h) (h .subjects) (h .subjects) i q l k
+      ∙ ap (λ (at : ℕ). be s at 4) behind
+      ∙ sym (price-in s h (h .nodes * h .subjects + (i * h .subjects + q)) (omega (arith, cell-lt (h .subjects) (h .subjects) i q l k)))
 
   pub link-price-past-from : (q : ℕ) → h .subjects ≤ i → linkPrice (nightIn s h) i q ≡ 0
   unfolding linkPrice nightIn

@@ -81,6 +81,10 @@ nodeAt s at =
 unfoldable pub pricesAt : List ℕ → ℕ → ℕ → ℕ → List (List ℕ)
 pricesAt s at rows columns = each rows (λ i. each columns (λ p. be s (at + 4 * (i * columns + p)) 4))
 
+-- price number i of all, step prices first: the link prices stand right behind them, in rows as long
+unfoldable pub nthPrice : List ℕ → Header → ℕ → ℕ
+nthPrice s h i = getD (each (h .nodes * h .subjects + h .subjects * h .subjects) (λ k. be s (stepPricesFrom h + 4 * k) 4)) i 0
+
 -- the night that the bytes hold, where the header is h
 unfoldable pub nightIn : List ℕ → Header → Night
 nightIn s h =

@@ -1,7 +1,7 @@
 // Where the sections of a plan file start.
 use night::Header;
 ghost use mathlib.Core.Path.{_≡_};
-ghost use Prim.Native.Nat.{_<_, _*_};
+ghost use Prim.Native.Nat.{_<_, _+_, _*_};
 ghost use Rattle.layout.specs.Layout.{grantsFrom, nodesFrom, stepPricesFrom, linkPricesFrom, fileLength};
 
 // Lengths of the header and of each record.
@@ -34,11 +34,25 @@ pub fn step_prices_from(h: Header) -> usize
     nodes_from(h) + NODE_LENGTH * (h.nodes as usize)
 }
 
+// How many step prices there are.
+pub(crate) fn step_prices(h: Header) -> usize
+    ensures { λ r. ⌜ (r ≡ h .nodes * h .subjects) × (r < 65_536) ⌝ }
+{
+    product(h.nodes, h.subjects)
+}
+
+// How many prices there are.
+pub(crate) fn prices(h: Header) -> usize
+    ensures { λ r. ⌜ (r ≡ h .nodes * h .subjects + h .subjects * h .subjects) × (r < 131_072) ⌝ }
+{
+    step_prices(h) + product(h.subjects, h.subjects)
+}
+
 // Where the link prices start.
 pub fn link_prices_from(h: Header) -> usize
     ensures { λ r. ⌜ (r ≡ linkPricesFrom h) × (r < 1_600_000) ⌝ }
 {
-    step_prices_from(h) + 4 * product(h.nodes, h.subjects)
+    step_prices_from(h) + 4 * step_prices(h)
 }
 
 // Where the file ends.

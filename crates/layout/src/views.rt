@@ -1,35 +1,40 @@
 // What a subject sees, from the grants of a plan file.
+use crate::grants;
 use crate::values;
 use night::Grant;
 use night::Header;
 use night::View;
 use sets::attributes;
 ghost use mathlib.Core.Path.{_≡_};
+ghost use Prim.Native.Nat.{min};
 ghost use Rattle.laws.specs.First.{first};
 ghost use Rattle.layout.specs.Layout.{nightIn};
 ghost use Rattle.night.specs.Night.{grantOf};
 ghost use Rattle.night.specs.Views.{isFor, seenBy, viewOf, overall};
 
-// Whether the grant is on relation r, to subject p.
-fn is_for(g: Grant, r: u8, p: u8) -> bool
-    ensures { λ b. ⌜ b ≡ isFor g r p ⌝ }
+// How many of the n grants that are left are decoded at once: as many as an accepted file can have.
+fn stretch(n: usize) -> usize
+    ensures { λ m. ⌜ m ≡ min n 272 ⌝ }
 {
-    if g.relation == r {
-        return g.subject == p;
+    if n < 272 {
+        return n;
     }
-    false
+    272
 }
 
-// The number of the first of the first n grants that is on relation r to subject p, or n where there is none.
+// The number of the first of the first n grants that is on relation r to subject p, or n where there is none. Grants that a header
+// counts beyond what a file may have are gone through in further stretches.
 pub fn first_grant(file: &[u8], h: Header, r: u8, p: u8, n: usize) -> usize
     ensures { λ j. ⌜ j ≡ first (λ k. isFor (grantOf (nightIn (now (file .entry)) h) k) r p) n ⌝ }
 {
-    let mut i: usize = 0;
-    while i < n {
-        if is_for(values::grant(file, h, i), r, p) {
-            return i;
+    let mut from: usize = 0;
+    while from < n {
+        let m = stretch(n - from);
+        let found = grants::find_from(file, h, from, m, r, p);
+        if found < m {
+            return from + found;
         }
-        i += 1;
+        from += m;
     }
     n
 }

@@ -18,7 +18,7 @@ use Rattle.night.specs.Kinds.{usesLeft, usesRight}
 use Rattle.night.specs.Promised.{Promised}
 use Rattle.model.specs.Candidates.{candidateSet}
 use Rattle.model.specs.Choice.{Choice, Admissible, ownerOf, handed, costAt}
-use Rattle.model.specs.Dp.{subjectsOf, offered, bestOf, noRow, bestChild, rowEntry, rowStep, costRows}
+use Rattle.model.specs.Dp.{subjectsOf, handedOn, bestOf, noRow, bestChild, rowEntry, rowStep, costRows}
 use Rattle.model.proofs.May.{set-exactly}
 use Rattle.model.proofs.Parents.{children}
 use Rattle.model.proofs.Lowest.{Found, best-found}
@@ -131,7 +131,7 @@ module _ (N : Night) (sound : Promised N) (i : ℕ) (l : i < N .header .nodes) w
 
   -- the cheapest way to hand node i over, as a search
   pub child-found : (s : ℕ) → Found (λ t. costOf N i t + nodeOf N i .size * linkPrice N t s) (subjectsOf N i) 16 (bestChild N (costRows N) i s)
-  unfolding bestChild costOf offered
+  unfolding bestChild costOf handedOn
   child-found s = best-found N (getD (costRows N) i noRow) (subjectsOf N i) (nodeOf N i .size) s 16
 
   pub child-least : (s t : ℕ) → In t (subjectsOf N i) → leastChild N i s ≤ costOf N i t + nodeOf N i .size * linkPrice N t s

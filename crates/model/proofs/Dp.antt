@@ -10,8 +10,8 @@ use Rattle.sets.specs.Sets.{In}
 use Rattle.night.specs.Night.{Night, nodeOf, linkPrice}
 use Rattle.night.specs.Kinds.{isChild}
 use Rattle.night.specs.Promised.{Promised}
-use Rattle.model.specs.Choice.{Choice, Admissible, AllHave, handed, total, Earlier, Least}
-use Rattle.model.specs.Dp.{subjectsOf, offered, noRow, bestChild, costRows, bestLast, chosen}
+use Rattle.model.specs.Choice.{Choice, Admissible, AllHave, handed, total, Earlier, Least, LeastThere}
+use Rattle.model.specs.Dp.{subjectsOf, handedOn, noRow, bestChild, costRows, bestLast, chosen}
 use Rattle.model.proofs.Parents.{child-lower}
 use Rattle.model.proofs.Lowest.{Found, best-found, found-some}
 use Rattle.model.proofs.Follows.{chosen-follows}
@@ -20,7 +20,7 @@ use Rattle.model.proofs.Greedy.{entryAt, childAt, last-le, child-tight,
 
 -- the last node's search
 last-found : (N : Night) → Found (λ t. costOf N (N .header .nodes - 1) t + 0 * linkPrice N t 0) (subjectsOf N (N .header .nodes - 1)) 16 (bestLast N (costRows N))
-unfolding bestLast costOf offered
+unfolding bestLast costOf handedOn
 last-found N = best-found N (getD (costRows N) (N .header .nodes - 1) noRow) (subjectsOf N (N .header .nodes - 1)) 0 0 16
 
 module _ (N : Night) (sound : Promised N) (some : AllHave N) where
@@ -137,3 +137,6 @@ dp-least N sound some =
       cheapest = chosen-cheapest N sound some;
       earliest = chosen-earliest N sound some;
     }
+
+pub least-there : LeastThere
+least-there N sound some = (λ i. getD (chosen N) i 0, dp-least N sound some)

@@ -14,7 +14,7 @@ use Rattle.sets.specs.Sets.{In, member}
 use Rattle.sets.proofs.Members.{member-in, not-member}
 use Rattle.night.specs.Night.{Night}
 use Rattle.model.specs.declared.Best.{Best}
-use Rattle.model.specs.Dp.{noBest, better, offered, bestOf}
+use Rattle.model.specs.Dp.{noBest, better, handedOn, bestOf}
 
 -- a loop that looks for it
 pub best-none : (N : Night) (row : List ℕ) (among size s : ℕ) → bestOf N row among size s 0 ≡ noBest
@@ -22,7 +22,7 @@ unfolding bestOf
 best-none N row among size s = refl
 
 pub best-more : (N : Night) (row : List ℕ) (among size s k : ℕ)
-    → bestOf N row among size s (k + 1) ≡ (if member among k then better (bestOf N row among size s k) (offered N row size s k) k else bestOf N row among size s k)
+    → bestOf N row among size s (k + 1) ≡ (if member among k then better (bestOf N row among size s k) (handedOn N row size s k) k else bestOf N row among size s k)
 unfolding bestOf
 best-more N row among size s k = rw add-one refl
 
@@ -100,10 +100,10 @@ module _ (f : ℕ → ℕ) (among k : ℕ) where
         go true e = found-better (member-in among k e)
         go false e = found-keep (λ z. not-member among k e) (λ h. absurd (not-member among k e h))
 
-pub best-found : (N : Night) (row : List ℕ) (among size s k : ℕ) → Found (offered N row size s) among k (bestOf N row among size s k)
+pub best-found : (N : Night) (row : List ℕ) (among size s k : ℕ) → Found (handedOn N row size s) among k (bestOf N row among size s k)
 unfolding bestOf
-best-found N row among size s zero = found-start (offered N row size s) among 0
-best-found N row among size s (suc k) = found-more (offered N row size s) among k _ (best-found N row among size s k)
+best-found N row among size s zero = found-start (handedOn N row size s) among 0
+best-found N row among size s (suc k) = found-more (handedOn N row size s) among k _ (best-found N row among size s k)
 
 -- where the set has a subject there is a cheapest
 pub found-some : {f : ℕ → ℕ} {among k : ℕ} {b : Best} (t : ℕ) → Found f among k b → t < k → In t among → b .found ≡ true

@@ -19,7 +19,7 @@ use Rattle.night.specs.Kinds.{usesLeft, usesRight, isChild}
 use Rattle.night.specs.Promised.{Promised}
 use Rattle.night.proofs.Visible.{step-uses-left}
 use Rattle.model.specs.Choice.{Choice, Admissible, handed, costAt, total}
-use Rattle.model.specs.Dp.{subjectsOf, offered, bestOf, noRow, bestChild, rowStep, costRows}
+use Rattle.model.specs.Dp.{subjectsOf, handedOn, bestOf, noRow, bestChild, rowStep, costRows}
 use Rattle.model.proofs.Parents.{children, children-le, child-lower, once-below, once}
 use Rattle.model.proofs.Lowest.{Found, best-found, found-some}
 use Rattle.model.proofs.CostRows.{paid, costOf, leastChild, cost-children, row-known, subject-there, subject-in, cost-is, cost-else, child-found, child-least}
@@ -33,11 +33,11 @@ lightest : Night → ℕ → ℕ
 lightest N k = bestOf N (getD (costRows N) k noRow) (subjectsOf N k) 0 0 16 .least
 
 -- what is found costs no more than all could
-pub best-most : (N : Night) (row : List ℕ) (among size s k bound : ℕ) → ((t : ℕ) → t < k → In t among → offered N row size s t ≤ bound)
+pub best-most : (N : Night) (row : List ℕ) (among size s k bound : ℕ) → ((t : ℕ) → t < k → In t among → handedOn N row size s t ≤ bound)
     → bestOf N row among size s k .least ≤ bound
 best-most N row among size s k bound h = go (bestOf N row among size s k .found) refl (best-found N row among size s k)
   where
-    go : (b : Bool) → bestOf N row among size s k .found ≡ b → Found (offered N row size s) among k (bestOf N row among size s k)
+    go : (b : Bool) → bestOf N row among size s k .found ≡ b → Found (handedOn N row size s) among k (bestOf N row among size s k)
         → bestOf N row among size s k .least ≤ bound
     go true e F = omega (arith, h _ (F .below e) (F .there e), F .cost e)
     go false e F = omega (arith, F .nothing e)
@@ -97,7 +97,7 @@ module _ (N : Night) (sound : Promised N) where
 
   -- a child handed over costs no more than its cheapest entry and the link
   lightest-found : (k : ℕ) → Found (λ t. costOf N k t + 0 * linkPrice N t 0) (subjectsOf N k) 16 (bestOf N (getD (costRows N) k noRow) (subjectsOf N k) 0 0 16)
-  unfolding costOf offered
+  unfolding costOf handedOn
   lightest-found k = best-found N (getD (costRows N) k noRow) (subjectsOf N k) 0 0 16
 
   child-most : (k s : ℕ) → k < n → s < N .header .subjects → leastChild N k s ≤ lightest N k + 1000000000
@@ -176,8 +176,8 @@ module _ (N : Night) (sound : Promised N) where
 
   -- a child's offer to its parent, and the least of them
   pub offer-most : (i k s t : ℕ) → i ≤ n → k < n → s < N .header .subjects → t < N .header .subjects
-      → offered N (getD (upwards (rowStep N) i) k noRow) (nodeOf N k .size) s t ≤ 129064000000
-  unfolding offered
+      → handedOn N (getD (upwards (rowStep N) i) k noRow) (nodeOf N k .size) s t ≤ 129064000000
+  unfolding handedOn
   offer-most i k s t l h p q = omega (arith, row-most i k t l, link-most k t s h q p)
 
   pub least-most : (i k s : ℕ) → i ≤ n → k < n → s < N .header .subjects → bestChild N (upwards (rowStep N) i) k s .least ≤ 129064000000

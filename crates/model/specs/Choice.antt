@@ -7,6 +7,7 @@ use Rattle.laws.specs.Sums.{sum}
 use Rattle.sets.specs.Sets.{In, size}
 use Rattle.night.specs.Night.{Night, relationOf, nodeOf, stepPrice, linkPrice}
 use Rattle.night.specs.Kinds.{usesLeft, usesRight}
+use Rattle.night.specs.Promised.{Promised}
 use Rattle.model.specs.Candidates.{candidateSet}
 
 -- a subject for each node
@@ -53,6 +54,10 @@ pub record Least (N : Night) (c : Choice) : Type 0 where
   pub admissible : Admissible N c
   pub cheapest : (d : Choice) → Admissible N d → total N c ≤ total N d
   pub earliest : (d : Choice) → Admissible N d → total N d ≡ total N c → Earlier (N .header .nodes) d c → ⊥
+
+-- there is a cheapest choice whenever every step has a candidate
+abbrev pub LeastThere : Type 0
+LeastThere = (N : Night) → Promised N → AllHave N → (c : Choice) × Least N c
 
 -- two cheapest choices are the same
 abbrev pub LeastOnce : Type 0

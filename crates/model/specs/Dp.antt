@@ -27,14 +27,14 @@ better b cost t =
     if b .found then if ltb cost (b .least) then record { found = true; least = cost; lowest = t } else b else record { found = true; least = cost; lowest = t }
 
 -- what subject t's table costs by its row, and of this size handed to subject s
-unfoldable pub offered : Night → List ℕ → ℕ → ℕ → ℕ → ℕ
-offered N row size s t = getD row t 0 + size * linkPrice N t s
+unfoldable pub handedOn : Night → List ℕ → ℕ → ℕ → ℕ → ℕ
+handedOn N row size s t = getD row t 0 + size * linkPrice N t s
 
 -- the cheapest of the subjects below k that are in the set
 unfoldable pub bestOf : Night → List ℕ → ℕ → ℕ → ℕ → ℕ → Best
 bestOf N row among size s zero = noBest
 bestOf N row among size s (suc k) =
-    if member among k then better (bestOf N row among size s k) (offered N row size s k) k else bestOf N row among size s k
+    if member among k then better (bestOf N row among size s k) (handedOn N row size s k) k else bestOf N row among size s k
 
 -- a row with no costs
 abbrev pub noRow : List ℕ
@@ -63,7 +63,7 @@ costRows N = upwards (rowStep N) (N .header .nodes)
 unfoldable pub giveChild : Night → List (List ℕ) → ℕ → ℕ → List ℕ → List ℕ
 giveChild N rows i k c = set c k (bestChild N rows k (getD c i 0) .lowest)
 
--- both children of node i
+-- the left child of node i, and both children
 unfoldable pub giveLeft : Night → List (List ℕ) → ℕ → List ℕ → List ℕ
 giveLeft N rows i c = if usesLeft (nodeOf N i .kind) then giveChild N rows i (nodeOf N i .left) c else c
 

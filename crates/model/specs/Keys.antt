@@ -28,7 +28,7 @@ unfoldable pub everSealed : List Event → ℕ
 everSealed [] = 0
 everSealed (e ∷ es) = union (e .sealed) (everSealed es)
 
--- the sealed attributes that share attribute k's key, where `tied` gives for each attribute all those tied with it: k's tied set, or k alone
+-- the sealed attributes that share attribute k's key, where `tied` gives for each attribute all those tied with it: those of k's tied set, or k alone; none where k is never sealed
 unfoldable pub groupOf : (ℕ → ℕ) → List Event → ℕ → ℕ
 groupOf tied es k = if member (everSealed es) k then meet (everSealed es) (union (attribute k) (tied k)) else 0
 

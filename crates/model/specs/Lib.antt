@@ -1,4 +1,4 @@
--- Tables, candidates, and the cheapest choice.
+-- Tables, candidates, the cheapest choice, the plan and its keys, the run, and demand 3 over a night.
 pub mod Linked
 pub mod Ties
 pub mod Tables

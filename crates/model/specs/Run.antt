@@ -54,7 +54,7 @@ Tested N past a form = Some (λ d. In a (testedBy (d .kind) (nodeOf N (d .node))
 unfoldable pub Tied : Night → List Past → ℕ → Type 0
 Tied N past m = Some (λ d. Some (λ t. m ≡ t) (tiedBy (d .kind) (nodeOf N (d .node)))) past
 
--- the sets with those of the list that meet them
+-- the set with each set of the list that meets it, one after the other
 unfoldable pub spreadOver : List ℕ → ℕ → ℕ
 spreadOver [] s = s
 spreadOver (t ∷ ts) s = spreadOver ts (if apart s t then s else union s t)
@@ -69,7 +69,7 @@ unfoldable pub spreadTimes : Night → ℕ → ℕ → ℕ
 spreadTimes N zero s = s
 spreadTimes N (suc k) s = spread N (N .header .nodes) (spreadTimes N k s)
 
--- all that chains of the ties of all steps reach from attribute k; each time but the last adds one of 64
+-- attribute k and all that chains of the ties of all steps reach from it: 64 times are enough, since a time that adds none of 64 attributes is the last that could
 unfoldable pub reached : Night → ℕ → ℕ
 reached N k = spreadTimes N 64 (attribute k)
 

@@ -33,6 +33,15 @@ abbrev pub grantsPart : Says Header → List ℕ → List ℕ
 grantsPart (answers h) s = take (nodesFrom h - grantsFrom h) (drop (grantsFrom h) s)
 grantsPart (refuses n p) s = []
 
+-- number and place of the refusal: 0 and 0 with an answer
+abbrev pub numberOf : Says Header → ℕ
+numberOf (answers h) = 0
+numberOf (refuses n p) = n
+
+abbrev pub placeOf : Says Header → ℕ
+placeOf (answers h) = 0
+placeOf (refuses n p) = p
+
 -- every accepted list of bytes has the promised facts
 abbrev pub AcceptedPromises : Type 0
 AcceptedPromises = (s : List ℕ) (h : Header) → checkOf s ≡ answers h → Promised (nightOf s)

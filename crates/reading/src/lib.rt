@@ -9,12 +9,19 @@ use layout::places;
 use layout::values;
 use night::Header;
 ghost use mathlib.Core.Path.{_≡_};
-ghost use Rattle.reading.specs.Answers.{saidOf, checkOf, grantsPart};
+ghost use Rattle.reading.specs.Answers.{saidOf, checkOf, grantsPart, numberOf, placeOf};
 
 // What is said of a file: the header's values where it is accepted, or the first refusal.
 pub enum Checked {
     Accepted(Header),
     Refused { number: u8, place: u32 },
+}
+
+// The part of a file that holds the grant records, and number and place of the refusal.
+pub struct Part<'a> {
+    pub records: &'a [u8],
+    pub number: u8,
+    pub place: u32,
 }
 
 // What came of a row of trials: all passed, or the first that failed.
@@ -53,10 +60,50 @@ pub fn check(file: &[u8]) -> Checked
 pub fn grant_records(file: &[u8]) -> &[u8]
     ensures { λ r. ⌜ now r ≡ grantsPart (checkOf (now (file .entry))) (now (file .entry)) ⌝ }
 {
-    let Checked::Accepted(h) = check(file) else {
+    part_in(file, check(file))
+}
+
+// The same part with the refusal beside it: number and place are 0 where the file is accepted.
+pub fn grant_records_told<'a>(file: &'a [u8]) -> Part<'a>
+    ensures { λ r. ⌜ (now (r .records) ≡ grantsPart (checkOf (now (file .entry))) (now (file .entry))) × (r .number ≡ numberOf (checkOf (now (file .entry)))) × (r .place ≡ placeOf (checkOf (now (file .entry)))) ⌝ }
+{
+    let said = check(file);
+    Part {
+        records: part_in(file, said),
+        number: number_of(said),
+        place: place_of(said),
+    }
+}
+
+// The part, where this is said of the file.
+fn part_in(file: &[u8], said: Checked) -> &[u8]
+    requires { ⌜ saidOf said ≡ checkOf (now file) ⌝ }
+    ensures { λ r. ⌜ now r ≡ grantsPart (saidOf said) (now (file .entry)) ⌝ }
+{
+    let Checked::Accepted(h) = said else {
         return &file[..0];
     };
     let from = places::grants_from(h);
     let to = places::nodes_from(h);
     &file[from..to]
+}
+
+// The number of a refusal.
+fn number_of(said: Checked) -> u8
+    ensures { λ r. ⌜ r ≡ numberOf (saidOf said) ⌝ }
+{
+    if let Checked::Refused { number, place } = said {
+        return number;
+    }
+    0
+}
+
+// The place of a refusal.
+fn place_of(said: Checked) -> u32
+    ensures { λ r. ⌜ r ≡ placeOf (saidOf said) ⌝ }
+{
+    if let Checked::Refused { number, place } = said {
+        return place;
+    }
+    0
 }

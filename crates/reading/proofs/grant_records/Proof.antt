@@ -1,60 +1,16 @@
--- The part between where the grants start and where the nodes start, which lies within an accepted file.
+-- The part that goes with the file's verdict.
 use borrow.Author.Needs.{needs}
-use native.Mathlib.Omega.{arith}
-use mathlib.Core.Path.{refl, sym, ap, _∙_}
-use denote.Ref.{now}
-use Rattle.reading.specs.Answers.{saidOf}
-use Rattle.reading.proofs.Opened.{accepted-length, grants-first, nodes-within}
 use Rattle.reading.proofs.grant_records.Statement.{statement}
 use Rattle.reading.proofs.grant_records.Tie as tie
 
 check-requires : tie.Need-check-requires
 check-requires c κs = search needs
 
-enum-known-h : tie.Need-enum-known-h
-enum-known-h c = search needs
-
-enum-told : tie.Need-enum-told
-enum-told c = search needs
-
-slice-aggregate-result : tie.Need-slice-aggregate-result
-slice-aggregate-result c = search needs
+part-in-requires : tie.Need-part-in-requires
+part-in-requires c κs = search needs
 
 returns : tie.Need-returns
-returns c = rw (← c .before .before .before .check .ensures, c .before .enum-told .given .1) refl
-
-grants-from-requires : tie.Need-grants-from-requires
-grants-from-requires c κs = search needs
-
-nodes-from-requires : tie.Need-nodes-from-requires
-nodes-from-requires c κs = search needs
-
-sub-result : tie.Need-sub-result
-sub-result c = omega (arith, grants-first (c .before .before .before .h .given .0 .0))
-
-part-result-start : tie.Need-part-result-start
-part-result-start c = omega (arith, grants-first (c .before .before .before .h .given .0 .0))
-
-part-result-end : tie.Need-part-result-end
-part-result-end c =
-    let h = c .before .before .before .h .given .0 .0 in
-    omega (arith, nodes-within h, accepted-length (now (c .before .before .before .before .before .before .before .args .file)) h (sym (c .before .before .before .before .before .check .ensures) ∙ ap saidOf (c .before .before .before .h .given .1)))
-
-returns-2 : tie.Need-returns-2
-returns-2 c = rw (← c .before .before .before .before .before .before .check .ensures, c .before .before .before .before .h .given .1, c .before .before .grants-from .ensures .0, c .before .nodes-from .ensures .0) refl
+returns c = rw (← c .before .check .ensures) (c .part-in .ensures)
 
 pub grant-records-spec : {M : Type 1} → statement M
-grant-records-spec =
-    tie.close
-    (tie.spec
-    check-requires
-    enum-known-h
-    enum-told
-    slice-aggregate-result
-    returns
-    grants-from-requires
-    nodes-from-requires
-    sub-result
-    part-result-start
-    part-result-end
-    returns-2)
+grant-records-spec = tie.close (tie.spec check-requires part-in-requires returns)

@@ -3,7 +3,7 @@ use native.Mathlib.Omega.{arith}
 use Prim.Native.Nat.{_≤_, _-_}
 use mathlib.Core.Path.{_≡_, sym}
 use Rattle.layout.specs.Layout.{nightIn}
-use Rattle.model.specs.Dp.{offered, bestOf}
+use Rattle.model.specs.Dp.{handedOn, bestOf}
 use Rattle.model.proofs.Lowest.{best-none, best-more}
 use Rattle.choosing.proofs.rows.best_of.Statement.{statement}
 use Rattle.choosing.proofs.rows.best_of.Tie as tie
@@ -27,7 +27,7 @@ cast-tried : tie.Need-cast-tried Inv-loop μ-loop
 cast-tried c = omega arith
 
 tried-requires : tie.Need-tried-requires Inv-loop μ-loop
-unfolding offered
+unfolding handedOn
 tried-requires c κs = c .before .before .before .pre (c .before .loop .t) (omega arith)
 
 add-t : tie.Need-add-t Inv-loop μ-loop
@@ -37,7 +37,7 @@ loop-less : tie.Need-loop-less Inv-loop μ-loop
 loop-less c = omega arith
 
 loop-again : tie.Need-loop-again Inv-loop μ-loop
-unfolding offered
+unfolding handedOn
 loop-again c = (omega arith, rw (best-more _ _ _ _ _ (c .before .before .loop .t), ← c .before .before .loop .inv .1) (c .tried .ensures))
 
 returns : tie.Need-returns Inv-loop μ-loop

@@ -8,8 +8,8 @@ use Rattle.layout.proofs.places.link_prices_from.Tie as tie
 step-prices-from-requires : tie.Need-step-prices-from-requires
 step-prices-from-requires c κs = search needs
 
-product-requires : tie.Need-product-requires
-product-requires c κs = search needs
+step-prices-requires : tie.Need-step-prices-requires
+step-prices-requires c κs = search needs
 
 mul-result : tie.Need-mul-result
 mul-result c = search needs
@@ -23,4 +23,4 @@ returns c = (omega arith, omega arith)
 
 pub link-prices-from-spec : {M : Type 1} → statement M
 link-prices-from-spec =
-    tie.close (tie.spec step-prices-from-requires product-requires mul-result add-result returns)
+    tie.close (tie.spec step-prices-from-requires step-prices-requires mul-result add-result returns)

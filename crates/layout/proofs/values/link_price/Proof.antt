@@ -1,9 +1,9 @@
--- In the table a price is read in its row and column, and past either it is 0.
+-- In the table a price is read by its number, behind the step prices, and past the rows or the columns it is 0.
 use borrow.Author.Needs.{needs}
 use mathlib.Core.Path.{sym}
 use denote.Ref.{now}
 use native.Mathlib.Omega.{arith}
-use Rattle.layout.proofs.Sections.{link-price-at, link-price-past-from, link-price-past-to}
+use Rattle.layout.proofs.Sections.{link-price-in, link-price-past-from, link-price-past-to}
 use Rattle.layout.proofs.values.link_price.Statement.{statement}
 use Rattle.layout.proofs.values.link_price.Tie as tie
 
@@ -23,16 +23,22 @@ returns-2 c =
     let a = c .before .before .before .before .before .args in
     sym (link-price-past-to (now (a .file)) (a .h) (a .p) (a .q) (omega arith))
 
-link-prices-from-requires : tie.Need-link-prices-from-requires
-link-prices-from-requires c κs = search needs
+step-prices-requires : tie.Need-step-prices-requires
+step-prices-requires c κs = search needs
+
+cell-requires : tie.Need-cell-requires
+cell-requires c κs = search needs
+
+add-price : tie.Need-add-price
+add-price c = search needs
 
 price-requires : tie.Need-price-requires
 price-requires c κs = search needs
 
 returns-3 : tie.Need-returns-3
 returns-3 c =
-    let a = c .before .before .before .before .before .before .before .args in
-    cc (link-price-at (now (a .file)) (a .h) (a .p) (a .q) (omega arith) (omega arith))
+    let a = c .before .before .before .before .before .before .before .before .args in
+    cc (link-price-in (now (a .file)) (a .h) (a .p) (a .q) (omega arith) (omega arith))
 
 pub link-price-spec : {M : Type 1} → statement M
 link-price-spec =
@@ -42,6 +48,8 @@ link-price-spec =
     returns
     cast-if2
     returns-2
-    link-prices-from-requires
+    step-prices-requires
+    cell-requires
+    add-price
     price-requires
     returns-3)

@@ -1,49 +1,30 @@
--- In its section a record is read where it stands, and past the section is the one of zeros.
-use borrow.Author.Needs.{needs}
-use mathlib.Core.Path.{sym, _∙_}
-use denote.Ref.{now}
-use native.Mathlib.Omega.{arith}
-use Rattle.layout.proofs.Sections.{node-at, node-past}
-use Rattle.layout.proofs.values.node.Statement.{statement}
-use Rattle.layout.proofs.values.node.Tie as tie
+-- `values::node` meets its contract: it makes a view and hands it to `opened::node_of`.
+use denote.Struct.Laws as LL
+use contract.Running.{givenOf, tables, tablesOf}
+use denote.Triple.Spec.{tripleOf}
+use denote.Triple.Table.{entered, cited}
+use Rattle.night.specs.Night.{nodeOf}
+use Rattle.night.proofs.Node as R
+use Rattle.night.proofs.Node.Laws as R′
+use Rattle.layout.specs.Layout.{nightIn}
+use Rattle.layout.proofs.Thin.{ViewOf, Apart, plain-meets}
+use Rattle.layout.proofs.opened.view_of.Symbol as view-def
+use Rattle.layout.proofs.opened.view_of.Symbol.{name as #layout·opened·view-of}
+use Rattle.layout.proofs.opened.view_of.Met as view-thm
+use Rattle.layout.proofs.opened.node_of.Symbol as thin-def
+use Rattle.layout.proofs.opened.node_of.Symbol.{name as #layout·opened·node-of}
+use Rattle.layout.proofs.opened.node_of.Met as thin-thm
+use Rattle.layout.proofs.values.node.Key.{name as #layout·values·node}
+use Rattle.layout.proofs.values.node as self
+use Rattle.layout.proofs.values.node.Statement as stated
+use Rattle.layout.proofs.values.node.Code as code
 
-cast-if1 : tie.Need-cast-if1
-cast-if1 c = search needs
-
-no-node-requires : tie.Need-no-node-requires
-no-node-requires c κs = search needs
-
-returns : tie.Need-returns
-returns c =
-    let a = c .before .before .before .before .args in
-    c .no-node .ensures ∙ sym (node-past (now (a .file)) (a .h) (a .i) (omega arith))
-
-nodes-from-requires : tie.Need-nodes-from-requires
-nodes-from-requires c κs = search needs
-
-mul-node-at : tie.Need-mul-node-at
-mul-node-at c = search needs
-
-add-node-at : tie.Need-add-node-at
-add-node-at c = search needs
-
-node-at-requires : tie.Need-node-at-requires
-node-at-requires c κs = search needs
-
-returns-2 : tie.Need-returns-2
-returns-2 c =
-    let a = c .before .before .before .before .before .args in
-    cc (node-at (now (a .file)) (a .h) (a .i) (omega arith))
-
-pub node-spec : {M : Type 1} → statement M
-node-spec =
-    tie.close
-    (tie.spec
-    cast-if1
-    no-node-requires
-    returns
-    nodes-from-requires
-    mul-node-at
-    add-node-at
-    node-at-requires
-    returns-2)
+pub node-spec : {M : Type 1} → stated.statement M
+unfolding code.routine tablesOf
+node-spec 𝓤 H 𝓜 𝓖 𝓡 =
+    let W = givenOf 𝓤 H 𝓜 𝓖 in
+    entered 𝓤 H (tripleOf 𝓤 H (𝓖 .A) self.signature (self.spec 𝓤 H (𝓖 .A) (𝓜 .mem) (𝓡 .run)))
+    (tables 𝓤 H 𝓜 𝓡 code.env .C) (tables 𝓤 H 𝓜 𝓡 code.env .Λ) #layout·values·node code.function (code.unfolded 𝓤 H 𝓜 𝓡)
+    (plain-meets R.the-row R′.mir (λ s h. nodeOf (nightIn s h)) 𝓤 H (𝓖 .A) W (𝓜 .mem) (𝓡 .run) (λ r u is. LL.lawful R.the-type R′.the-laws 𝓤 H (𝓖 .A) W .typed r _ is .0) #layout·opened·node-of (tablesOf 𝓤 H 𝓜 (tables 𝓤 H 𝓜 𝓡 code.env))
+    (cited 𝓤 H (ViewOf 𝓤 H (𝓖 .A) (𝓜 .mem) (𝓡 .run)) 𝓜 𝓡 code.env #layout·opened·view-of view-def.routine code.calls-layout·opened·view-of (view-thm.met 𝓤 H 𝓜 𝓖 𝓡))
+    (cited 𝓤 H (Apart R.the-row R′.mir (λ s h. nodeOf (nightIn s h)) 𝓤 H (𝓖 .A)) 𝓜 𝓡 code.env #layout·opened·node-of thin-def.routine code.calls-layout·opened·node-of (thin-thm.met 𝓤 H 𝓜 𝓖 𝓡)))

@@ -1,35 +1,30 @@
--- In its section a record is read where it stands, and past the section is the one of zeros.
-use borrow.Author.Needs.{needs}
-use mathlib.Core.Path.{sym}
-use denote.Ref.{now}
-use native.Mathlib.Omega.{arith}
-use Rattle.layout.proofs.Sections.{relation-at, relation-past}
-use Rattle.layout.proofs.values.relation.Statement.{statement}
-use Rattle.layout.proofs.values.relation.Tie as tie
+-- `values::relation` meets its contract: it makes a view and hands it to `opened::relation_of`.
+use denote.Struct.Laws as LL
+use contract.Running.{givenOf, tables, tablesOf}
+use denote.Triple.Spec.{tripleOf}
+use denote.Triple.Table.{entered, cited}
+use Rattle.night.specs.Night.{relationOf}
+use Rattle.night.proofs.Relation as R
+use Rattle.night.proofs.Relation.Laws as R′
+use Rattle.layout.specs.Layout.{nightIn}
+use Rattle.layout.proofs.Thin.{ViewOf, Apart, plain-meets}
+use Rattle.layout.proofs.opened.view_of.Symbol as view-def
+use Rattle.layout.proofs.opened.view_of.Symbol.{name as #layout·opened·view-of}
+use Rattle.layout.proofs.opened.view_of.Met as view-thm
+use Rattle.layout.proofs.opened.relation_of.Symbol as thin-def
+use Rattle.layout.proofs.opened.relation_of.Symbol.{name as #layout·opened·relation-of}
+use Rattle.layout.proofs.opened.relation_of.Met as thin-thm
+use Rattle.layout.proofs.values.relation.Key.{name as #layout·values·relation}
+use Rattle.layout.proofs.values.relation as self
+use Rattle.layout.proofs.values.relation.Statement as stated
+use Rattle.layout.proofs.values.relation.Code as code
 
-cast-if1 : tie.Need-cast-if1
-cast-if1 c = search needs
-
-returns : tie.Need-returns
-returns c =
-    let a = c .before .before .before .args in
-    sym (relation-past (now (a .file)) (a .h) (a .i) (omega arith))
-
-mul-relation-at : tie.Need-mul-relation-at
-mul-relation-at c = search needs
-
-add-relation-at : tie.Need-add-relation-at
-add-relation-at c = search needs
-
-relation-at-requires : tie.Need-relation-at-requires
-relation-at-requires c κs = search needs
-
-returns-2 : tie.Need-returns-2
-returns-2 c =
-    let a = c .before .before .before .before .args in
-    cc (relation-at (now (a .file)) (a .h) (a .i) (omega arith))
-
-pub relation-spec : {M : Type 1} → statement M
-relation-spec =
-    tie.close
-    (tie.spec cast-if1 returns mul-relation-at add-relation-at relation-at-requires returns-2)
+pub relation-spec : {M : Type 1} → stated.statement M
+unfolding code.routine tablesOf
+relation-spec 𝓤 H 𝓜 𝓖 𝓡 =
+    let W = givenOf 𝓤 H 𝓜 𝓖 in
+    entered 𝓤 H (tripleOf 𝓤 H (𝓖 .A) self.signature (self.spec 𝓤 H (𝓖 .A) (𝓜 .mem) (𝓡 .run)))
+    (tables 𝓤 H 𝓜 𝓡 code.env .C) (tables 𝓤 H 𝓜 𝓡 code.env .Λ) #layout·values·relation code.function (code.unfolded 𝓤 H 𝓜 𝓡)
+    (plain-meets R.the-row R′.mir (λ s h. relationOf (nightIn s h)) 𝓤 H (𝓖 .A) W (𝓜 .mem) (𝓡 .run) (λ r u is. LL.lawful R.the-type R′.the-laws 𝓤 H (𝓖 .A) W .typed r _ is .0) #layout·opened·relation-of (tablesOf 𝓤 H 𝓜 (tables 𝓤 H 𝓜 𝓡 code.env))
+    (cited 𝓤 H (ViewOf 𝓤 H (𝓖 .A) (𝓜 .mem) (𝓡 .run)) 𝓜 𝓡 code.env #layout·opened·view-of view-def.routine code.calls-layout·opened·view-of (view-thm.met 𝓤 H 𝓜 𝓖 𝓡))
+    (cited 𝓤 H (Apart R.the-row R′.mir (λ s h. relationOf (nightIn s h)) 𝓤 H (𝓖 .A)) 𝓜 𝓡 code.env #layout·opened·relation-of thin-def.routine code.calls-layout·opened·relation-of (thin-thm.met 𝓤 H 𝓜 𝓖 𝓡)))

@@ -1,9 +1,9 @@
--- In the table a price is read in its row and column, and past either it is 0.
+-- In the table a price is read by its number, and past the rows or the columns it is 0.
 use borrow.Author.Needs.{needs}
 use mathlib.Core.Path.{sym}
 use denote.Ref.{now}
 use native.Mathlib.Omega.{arith}
-use Rattle.layout.proofs.Sections.{step-price-at, step-price-past-nodes, step-price-past-subjects}
+use Rattle.layout.proofs.Sections.{step-price-in, step-price-past-nodes, step-price-past-subjects}
 use Rattle.layout.proofs.values.step_price.Statement.{statement}
 use Rattle.layout.proofs.values.step_price.Tie as tie
 
@@ -23,8 +23,8 @@ returns-2 c =
     let a = c .before .before .before .before .before .args in
     sym (step-price-past-subjects (now (a .file)) (a .h) (a .i) (a .p) (omega arith))
 
-step-prices-from-requires : tie.Need-step-prices-from-requires
-step-prices-from-requires c κs = search needs
+cell-requires : tie.Need-cell-requires
+cell-requires c κs = search needs
 
 price-requires : tie.Need-price-requires
 price-requires c κs = search needs
@@ -32,7 +32,7 @@ price-requires c κs = search needs
 returns-3 : tie.Need-returns-3
 returns-3 c =
     let a = c .before .before .before .before .before .before .before .args in
-    cc (step-price-at (now (a .file)) (a .h) (a .i) (a .p) (omega arith) (omega arith))
+    cc (step-price-in (now (a .file)) (a .h) (a .i) (a .p) (omega arith) (omega arith))
 
 pub step-price-spec : {M : Type 1} → statement M
 step-price-spec =
@@ -42,6 +42,6 @@ step-price-spec =
     returns
     cast-if2
     returns-2
-    step-prices-from-requires
+    cell-requires
     price-requires
     returns-3)

@@ -1,41 +1,55 @@
--- The laws of looking for the first: each turn asks of one grant.
-use Prim.Native.Nat.{_-_, _≤_}
+-- The laws of looking for the first in stretches: each turn asks of one.
+use Prim.Native.Nat.{ℕ, _-_, _≤_}
 use mathlib.Core.Path.{_≡_, sym}
-use mathlib.Core.Bool.{true, false}
+use mathlib.Core.Bool.{Bool}
+use mathlib.Core.List.{List}
 use native.Mathlib.Omega.{arith}
 use denote.Ref.{now}
+use borrow.Author.Needs.{needs}
 use Rattle.laws.specs.First.{first}
-use Rattle.laws.proofs.First.{first-none, first-more, first-found, first-all}
+use Rattle.laws.proofs.First.{first-none, first-all, stretch-none, stretch-found}
+use Rattle.night.specs.declared.Header.{Header}
 use Rattle.night.specs.Night.{grantOf}
 use Rattle.night.specs.Views.{isFor}
 use Rattle.layout.specs.Layout.{nightIn}
 use Rattle.layout.proofs.views.first_grant.Statement.{statement}
 use Rattle.layout.proofs.views.first_grant.Tie as tie
 
+-- grant k is for the pair
+abbrev test : List ℕ → Header → ℕ → ℕ → ℕ → Bool
+test s h r p k = isFor (grantOf (nightIn s h) k) r p
+
 abbrev Inv-loop : tie.InvT-loop
-Inv-loop file h r p n i₀ i = (i ≤ n) × (first (λ k. isFor (grantOf (nightIn file h) k) r p) i ≡ i)
+Inv-loop file h r p n from₀ from = (from ≤ n) × (first (test file h r p) from ≡ from)
 
 abbrev μ-loop : tie.MeasureT-loop
-μ-loop file h r p n i₀ i = n - i
+μ-loop file h r p n from₀ from = n - from
 
 loop-holds : tie.Need-loop-holds Inv-loop μ-loop
 loop-holds c = (omega arith, first-none _)
 
-grant-requires : tie.Need-grant-requires Inv-loop μ-loop
-grant-requires c κs = tt
+sub-stretch : tie.Need-sub-stretch Inv-loop μ-loop
+sub-stretch c = omega arith
 
-is-for-requires : tie.Need-is-for-requires Inv-loop μ-loop
-is-for-requires c κs = tt
+stretch-requires : tie.Need-stretch-requires Inv-loop μ-loop
+stretch-requires c κs = search needs
+
+find-from-requires : tie.Need-find-from-requires Inv-loop μ-loop
+find-from-requires c κs = omega arith
+
+add-result : tie.Need-add-result Inv-loop μ-loop
+add-result c = omega arith
 
 returns : tie.Need-returns Inv-loop μ-loop
 returns c =
     let b = c .before .before .before .before in
     let a = b .before .before .args in
-    let e : isFor (grantOf (nightIn (now (a .file)) (a .h)) (b .loop .i)) (a .r) (a .p) ≡ true = cc in
-    sym (first-found _ _ (a .n) (b .loop .inv .1) e (omega arith))
+    let m = c .before .before .stretch .result in
+    let e = c .before .find-from .ensures in
+    rw e (sym (stretch-found (test (now (a .file)) (a .h) (a .r) (a .p)) (b .loop .from) m (b .loop .inv .1) (a .n) (omega arith) (omega arith)))
 
-add-i : tie.Need-add-i Inv-loop μ-loop
-add-i c = omega arith
+add-from : tie.Need-add-from Inv-loop μ-loop
+add-from c = omega arith
 
 loop-less : tie.Need-loop-less Inv-loop μ-loop
 loop-less c = omega arith
@@ -44,13 +58,14 @@ loop-again : tie.Need-loop-again Inv-loop μ-loop
 loop-again c =
     let b = c .before .before .before .before in
     let a = b .before .before .args in
-    let e : isFor (grantOf (nightIn (now (a .file)) (a .h)) (b .loop .i)) (a .r) (a .p) ≡ false = cc in
-    (omega arith, first-more _ _ (b .loop .inv .1) e)
+    let m = c .before .before .stretch .result in
+    let e = c .before .find-from .ensures in
+    (omega arith, stretch-none (test (now (a .file)) (a .h) (a .r) (a .p)) (b .loop .from) m (b .loop .inv .1) m (omega arith))
 
 returns-2 : tie.Need-returns-2 Inv-loop μ-loop
 returns-2 c =
     let b = c .before in
-    sym (first-all _ (b .loop .i) (b .before .before .args .n) (b .loop .inv .1) (omega arith))
+    sym (first-all _ (b .loop .from) (b .before .before .args .n) (b .loop .inv .1) (omega arith))
 
 pub first-grant-spec : {M : Type 1} → statement M
 first-grant-spec =
@@ -59,10 +74,12 @@ first-grant-spec =
     Inv-loop
     μ-loop
     loop-holds
-    grant-requires
-    is-for-requires
+    sub-stretch
+    stretch-requires
+    find-from-requires
+    add-result
     returns
-    add-i
+    add-from
     loop-less
     loop-again
     returns-2)

@@ -1,8 +1,8 @@
 -- The tests are those of the definition, in its order.
 use Rattle.laws.proofs.Cases.{cases}
 use Rattle.night.specs.Views.{isFor}
-use Rattle.layout.proofs.views.is_for.Statement.{statement}
-use Rattle.layout.proofs.views.is_for.Tie as tie
+use Rattle.layout.proofs.grants.is_for.Statement.{statement}
+use Rattle.layout.proofs.grants.is_for.Tie as tie
 
 returns : tie.Need-returns
 unfolding isFor

@@ -1,8 +1,8 @@
 -- Each field is read where the definition has it.
 use borrow.Author.Needs.{needs}
 use Rattle.layout.specs.Layout.{grantAt}
-use Rattle.layout.proofs.values.grant_at.Statement.{statement}
-use Rattle.layout.proofs.values.grant_at.Tie as tie
+use Rattle.layout.proofs.records.grant_at.Statement.{statement}
+use Rattle.layout.proofs.records.grant_at.Tie as tie
 
 byte-requires : tie.Need-byte-requires
 byte-requires c κs = search needs

@@ -1,0 +1,13 @@
+//! Tells the linker where the archive lies, when it is asked for.
+
+fn main() {
+    println!("cargo::rerun-if-env-changed=TOLLBURROW_LIB_DIR");
+    if std::env::var_os("CARGO_FEATURE_LIBRARY").is_none() {
+        return;
+    }
+    let dir = std::env::var("TOLLBURROW_LIB_DIR")
+        .expect("TOLLBURROW_LIB_DIR names the directory that holds libtollburrow.a");
+    println!("cargo::rerun-if-changed={dir}/libtollburrow.a");
+    println!("cargo::rustc-link-search=native={dir}");
+    println!("cargo::rustc-link-lib=static=tollburrow");
+}

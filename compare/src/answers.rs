@@ -1,0 +1,106 @@
+//! The program `answers`: cases over its standard input, its lines compared.
+
+use std::io::Write;
+use std::path::Path;
+use std::process::{Command, Stdio};
+
+use crate::generate::{Case, LONGEST_OFFER, LONGEST_TAKEN};
+use crate::planner::{Rooms, Study, study};
+use crate::reading::Refusal;
+use crate::text;
+
+/// Cases as they are sent, and the lines each must bring.
+#[derive(Default)]
+pub struct Stream {
+    input: Vec<u8>,
+    expected: Vec<String>,
+    labels: Vec<String>,
+}
+
+fn header(file: usize, offer: usize, rooms: &Rooms) -> Vec<u8> {
+    let mut out = (file as u32).to_be_bytes().to_vec();
+    out.extend((offer as u32).to_be_bytes());
+    for room in [rooms.choice, rooms.plan, rooms.keys] {
+        out.extend((room as u16).to_be_bytes());
+    }
+    out
+}
+
+impl Stream {
+    pub fn add(&mut self, label: String, case: &Case, study: &Result<Study, Refusal>) {
+        self.input.extend(header(case.file.len(), case.offer.len(), &case.rooms));
+        self.input.extend(&case.file);
+        self.input.extend(&case.offer);
+        let number = self.expected.len();
+        self.expected.push(text::case(number, study, &case.offer, &case.rooms));
+        self.labels.push(label);
+    }
+
+    pub fn len(&self) -> usize {
+        self.expected.len()
+    }
+
+    /// Sends the cases with `tail` after them, which must bring `last`.
+    fn compare(&self, command: &str, tail: &[u8], last: &str) -> Result<(), String> {
+        let output = ask(command, [&self.input[..], tail].concat())?;
+        let mut rest = &output[..];
+        for (number, lines) in self.expected.iter().enumerate() {
+            let Some(after) = rest.strip_prefix(&lines[..]) else {
+                let end = rest.find(&format!("\ncase {}\n", number + 1)).unwrap_or(rest.len());
+                let label = &self.labels[number];
+                return Err(format!("{label}\nexpected\n{lines}\nprinted\n{}", &rest[..end]));
+            };
+            rest = after;
+        }
+        if rest == last { Ok(()) } else { Err(format!("at the end {last:?}, printed {rest:?}")) }
+    }
+
+    pub fn compare_all(&self, command: &str) -> Result<(), String> {
+        self.compare(command, &[], "")
+    }
+}
+
+fn ask(command: &str, input: Vec<u8>) -> Result<String, String> {
+    let mut asked = if Path::new(command).is_file() {
+        Command::new(command)
+    } else {
+        let mut shell = Command::new("sh");
+        shell.args(["-c", command]);
+        shell
+    };
+    let text = |error: std::io::Error| format!("{command}: {error}");
+    let mut child = asked.stdin(Stdio::piped()).stdout(Stdio::piped()).spawn().map_err(text)?;
+    let mut stdin = child.stdin.take().expect("piped");
+    // A thread of its own, or both sides would wait for each other's pipe. A
+    // run that ends with `cut` need not read on, so a broken pipe is no fault.
+    let writer = std::thread::spawn(move || {
+        let _ = stdin.write_all(&input);
+    });
+    let output = child.wait_with_output().map_err(text)?;
+    writer.join().map_err(|_| "the writing thread failed".to_owned())?;
+    String::from_utf8(output.stdout).map_err(|_| format!("{command}: printed no text"))
+}
+
+/// Runs that end early, and lengths just within what is taken.
+pub fn compare_cuts(command: &str, case: &Case) -> Result<(), String> {
+    let widest = Case {
+        family: "widest",
+        file: vec![b'A'; LONGEST_TAKEN],
+        offer: vec![0; LONGEST_OFFER],
+        ..*case
+    };
+    let mut lead = Stream::default();
+    lead.add("before the cut".into(), case, &study(&case.file));
+    lead.add("the longest taken".into(), &widest, &study(&widest.file));
+    let (file, offer) = (case.file.len(), case.offer.len());
+    let whole = [&header(file, offer, &case.rooms)[..], &case.file, &case.offer].concat();
+    for length in [1, 13, 14, 14 + file - 1, whole.len() - 1] {
+        lead.compare(command, &whole[..length], "cut\n")?;
+    }
+    for (file, offer) in [(LONGEST_TAKEN + 1, 1), (1, LONGEST_OFFER + 1), (u32::MAX as usize, 0)] {
+        let mut tail = header(file, offer, &case.rooms);
+        tail.resize(tail.len() + LONGEST_TAKEN + 2 * LONGEST_OFFER, 0);
+        lead.compare(command, &tail, "cut\n")?;
+    }
+    Stream::default().compare_all(command)
+}

@@ -1,0 +1,149 @@
+//! Every opening and sealing of a tiny file, tried by running it.
+
+use crate::choice::{choices_within, for_every_choice};
+use crate::file::{File, Work};
+use crate::planner::{Plan, Study};
+use crate::run::run;
+use crate::sets::Flags;
+
+/// More runs than this on one file are not worth their time.
+const MOST_RUNS: usize = 30_000;
+/// Up to this many bits of openings and sealings, even those are tried that
+/// name what the table does not have or has in the wrong form.
+const RAW_BITS: usize = 12;
+
+fn subsets(set: Flags) -> impl Iterator<Item = Flags> {
+    let members = set.list();
+    (0..1u64 << members.len()).map(move |pattern| {
+        let mut subset = Flags::NONE;
+        for (place, &member) in members.iter().enumerate() {
+            if pattern >> place & 1 == 1 {
+                subset.put(member);
+            }
+        }
+        subset
+    })
+}
+
+/// A plan under way, with what every node so far leaves clear and sealed.
+struct Walk<'a> {
+    file: &'a File,
+    plan: Plan,
+    left: Vec<(Flags, Flags)>,
+    /// Takes each whole plan; false ends the walk.
+    each: &'a mut dyn FnMut(&Plan) -> bool,
+}
+
+impl Walk<'_> {
+    fn arrives(&self, work: &Work) -> (Flags, Flags) {
+        let (mut clear, mut sealed) = (Flags::NONE, Flags::NONE);
+        if let Work::Leaf { set, .. } = work {
+            clear = *set;
+        }
+        for child in work.children() {
+            clear = clear.or(&self.left[child].0);
+            sealed = sealed.or(&self.left[child].1);
+        }
+        (clear, sealed)
+    }
+
+    /// Each opening of what arrives sealed with each sealing of what is then
+    /// clear: all others are stuck at once.
+    fn go_on(&mut self) -> bool {
+        let Some(node) = self.file.nodes.get(self.left.len()) else {
+            return (self.each)(&self.plan);
+        };
+        let (clear, sealed) = self.arrives(&node.work);
+        let after = node.work.visible_after(&clear.or(&sealed));
+        for opens in subsets(sealed) {
+            let result = clear.or(&opens).and(&after);
+            for seals in subsets(result) {
+                self.plan.opens.push(opens);
+                self.plan.seals.push(seals);
+                self.left.push((result.minus(&seals), after.minus(&result).or(&seals)));
+                let more = self.go_on();
+                self.plan.opens.pop();
+                self.plan.seals.pop();
+                self.left.pop();
+                if !more {
+                    return false;
+                }
+            }
+        }
+        true
+    }
+}
+
+fn for_sensible_plans(file: &File, each: &mut dyn FnMut(&Plan) -> bool) -> bool {
+    let plan = Plan { opens: vec![], seals: vec![] };
+    Walk { file, plan, left: vec![], each }.go_on()
+}
+
+/// Every assignment of attributes to the openings and sealings of all nodes.
+fn for_raw_plans(file: &File, each: &mut dyn FnMut(&Plan) -> bool) -> bool {
+    let (nodes, attributes) = (file.nodes.len(), file.attributes);
+    let part = |pattern: u64, index: usize| {
+        Flags::from_bits(pattern >> (index * attributes)).and(&Flags::below(attributes))
+    };
+    (0..1u64 << (2 * attributes * nodes)).all(|pattern| {
+        each(&Plan {
+            opens: (0..nodes).map(|node| part(pattern, node)).collect(),
+            seals: (0..nodes).map(|node| part(pattern, nodes + node)).collect(),
+        })
+    })
+}
+
+pub struct Tried {
+    pub raw: bool,
+    pub choices: usize,
+    pub plans: usize,
+    pub runs: usize,
+}
+
+/// A choice with owners at the leaves, and whether a plan ran clean for it.
+struct Tally {
+    choice: Vec<usize>,
+    clean: bool,
+}
+
+fn every_choice(study: &Study) -> Option<Vec<Tally>> {
+    let file = &study.file;
+    let everyone: Vec<usize> = (0..file.subjects).collect();
+    let options: Vec<Vec<usize>> = (0..file.nodes.len())
+        .map(|node| file.owner_at(node).map_or(everyone.clone(), |owner| vec![owner]))
+        .collect();
+    choices_within(&options, MOST_RUNS)?;
+    let mut out = Vec::new();
+    for_every_choice(&options, |choice| out.push(Tally { choice: choice.to_vec(), clean: false }));
+    Some(out)
+}
+
+/// For every choice with owners at the leaves: some plan runs clean exactly
+/// when each chosen subject is a candidate. `None` where there are too many.
+pub fn try_every(study: &Study) -> Result<Option<Tried>, String> {
+    let file = &study.file;
+    let Some(mut tallies) = every_choice(study) else { return Ok(None) };
+    let raw = 2 * file.attributes * file.nodes.len() <= RAW_BITS;
+    let walk = if raw { for_raw_plans } else { for_sensible_plans };
+    let most = MOST_RUNS / tallies.len();
+    let mut tried = Tried { raw, choices: tallies.len(), plans: 0, runs: 0 };
+    let few = walk(file, &mut |_| {
+        tried.plans += 1;
+        tried.plans <= most
+    });
+    if !few {
+        return Ok(None);
+    }
+    walk(file, &mut |plan| {
+        for tally in tallies.iter_mut().filter(|tally| !tally.clean) {
+            tried.runs += 1;
+            tally.clean = run(file, &study.views, &tally.choice, plan).is_ok();
+        }
+        true
+    });
+    let wrong = |tally: &&Tally| tally.clean != study.wronged(&tally.choice).is_none();
+    match tallies.iter().find(wrong) {
+        Some(Tally { choice, clean }) => Err(format!("choice {choice:?}: some clean plan {clean}")),
+        None => Ok(Some(tried)),
+    }
+}

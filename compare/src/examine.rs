@@ -1,0 +1,98 @@
+//! What the planner must hold against itself on one case, library or none.
+
+use crate::choice;
+use crate::coverage::Coverage;
+use crate::every;
+use crate::generate::Case;
+use crate::planner::{Answer, Study};
+use crate::reading::Refusal;
+use crate::run;
+
+/// Beyond this many choices only the recursion is asked.
+const MOST_ENUMERATED: usize = 20_000;
+
+pub fn examine(
+    case: &Case,
+    study: &Result<Study, Refusal>,
+    coverage: &mut Coverage,
+) -> Result<(), String> {
+    let study = match study {
+        Ok(study) => study,
+        Err(refusal) => {
+            coverage.refused(&[*refusal]);
+            return Ok(());
+        }
+    };
+    coverage.read(study);
+    if study.file.write() != case.file {
+        return Err("the file written again is another".into());
+    }
+    two_ways(study, coverage)?;
+    let cheapest = study.cheapest(&case.rooms);
+    let offered = study.offered(&case.offer, &case.rooms);
+    coverage.answered += usize::from(cheapest.is_ok());
+    coverage.accepted_offers += usize::from(offered.is_ok());
+    let refusals: Vec<Refusal> =
+        [&cheapest, &offered].into_iter().filter_map(|r| r.as_ref().err().copied()).collect();
+    coverage.refused(&refusals);
+    for answer in [&cheapest, &offered].into_iter().flatten() {
+        coverage.keys(&answer.keys);
+        runs_clean(study, answer, coverage)?;
+    }
+    wrong_runs_faulty(study, &case.offer, coverage)?;
+    // Only those made tiny: the small ones that happen to be would cost more.
+    if case.family == "tiny"
+        && let Some(tried) = every::try_every(study)?
+    {
+        coverage.tried(&tried);
+    }
+    Ok(())
+}
+
+fn two_ways(study: &Study, coverage: &mut Coverage) -> Result<(), String> {
+    let Ok(options) = study.full_options() else { return Ok(()) };
+    if choice::choices_within(&options, MOST_ENUMERATED).is_none() {
+        return Ok(());
+    }
+    let (tried, equals) = choice::by_enumeration(&study.file, &options);
+    let found = choice::by_recursion(&study.file, &options);
+    if tried != found || found.total != choice::total(&study.file, &found.choice()) {
+        return Err(format!("by enumeration {tried:?}, by recursion {found:?}"));
+    }
+    coverage.enumerated += 1;
+    coverage.tied_totals += usize::from(equals > 1);
+    Ok(())
+}
+
+fn runs_clean(study: &Study, answer: &Answer, coverage: &mut Coverage) -> Result<(), String> {
+    let Study { file, views, plan, .. } = study;
+    if let Err(fault) = run::run(file, views, &answer.choice, plan) {
+        return Err(format!("the built plan for {:?} ends with {fault:?}", answer.choice));
+    }
+    let keys = run::keys(file, &answer.choice, plan);
+    if keys != answer.keys {
+        return Err(format!("keys by chains {keys:?}, by tied sets {:?}", answer.keys));
+    }
+    coverage.clean_runs += 1;
+    Ok(())
+}
+
+/// A choice with owners at the leaves and a step's subject that is no
+/// candidate has no clean run, so the built plan's is not clean.
+fn wrong_runs_faulty(study: &Study, offer: &[u8], coverage: &mut Coverage) -> Result<(), String> {
+    let Study { file, views, plan, .. } = study;
+    let choice: Vec<usize> = offer.iter().map(|&subject| subject.into()).collect();
+    let stands = |node: usize| match file.owner_at(node) {
+        Some(owner) => choice[node] == owner,
+        None => choice[node] < file.subjects,
+    };
+    let of_subjects = choice.len() == file.nodes.len() && (0..choice.len()).all(stands);
+    if !of_subjects || study.wronged(&choice).is_none() {
+        return Ok(());
+    }
+    if run::run(file, views, &choice, plan).is_ok() {
+        return Err(format!("the built plan for {choice:?} runs clean, with no candidate"));
+    }
+    coverage.faulty_runs += 1;
+    Ok(())
+}

@@ -1,0 +1,213 @@
+//! The plan file: what it holds, and how it is written. Reading is apart.
+
+use crate::sets::Flags;
+
+pub const HEADER: usize = 15;
+pub const RELATION: usize = 9;
+pub const GRANT: usize = 18;
+pub const NODE: usize = 28;
+pub const ANY: u8 = 255;
+pub const UNUSED: u8 = 255;
+pub const MOST_SIZE: u64 = 1_000_000;
+pub const MOST_STEP_PRICE: u64 = 1_000_000;
+pub const MOST_LINK_PRICE: u64 = 1_000;
+
+#[derive(Clone, PartialEq, Debug)]
+pub struct Relation {
+    pub owner: usize,
+    pub set: Flags,
+}
+
+#[derive(Clone, PartialEq, Debug)]
+pub struct Grant {
+    pub relation: usize,
+    /// `None` is the grant to any.
+    pub subject: Option<usize>,
+    pub clear: Flags,
+    pub sealed: Flags,
+}
+
+/// A node's kind together with just what that kind uses.
+#[derive(Clone, PartialEq, Debug)]
+pub enum Work {
+    Leaf { relation: usize, set: Flags },
+    Project { from: usize, set: Flags },
+    SelectValue { from: usize, x: usize },
+    SelectPair { from: usize, x: usize, y: usize },
+    Product { left: usize, right: usize },
+    Join { left: usize, right: usize, x: usize, y: usize },
+    Aggregate { from: usize, set: Flags, x: usize },
+    Count { from: usize, set: Flags },
+    Function { from: usize, set: Flags, x: usize },
+}
+
+impl Work {
+    pub fn kind(&self) -> u8 {
+        match self {
+            Work::Leaf { .. } => 0,
+            Work::Project { .. } => 1,
+            Work::SelectValue { .. } => 2,
+            Work::SelectPair { .. } => 3,
+            Work::Product { .. } => 4,
+            Work::Join { .. } => 5,
+            Work::Aggregate { .. } => 6,
+            Work::Count { .. } => 7,
+            Work::Function { .. } => 8,
+        }
+    }
+
+    pub fn is_leaf(&self) -> bool {
+        matches!(self, Work::Leaf { .. })
+    }
+
+    /// Without a list made for each call: totals ask this very often.
+    pub fn children(&self) -> impl Iterator<Item = usize> + use<> {
+        let pair = match *self {
+            Work::Leaf { .. } => [None, None],
+            Work::Product { left, right } | Work::Join { left, right, .. } => {
+                [Some(left), Some(right)]
+            }
+            Work::Project { from, .. }
+            | Work::SelectValue { from, .. }
+            | Work::SelectPair { from, .. }
+            | Work::Aggregate { from, .. }
+            | Work::Count { from, .. }
+            | Work::Function { from, .. } => [Some(from), None],
+        };
+        pair.into_iter().flatten()
+    }
+
+    pub fn reads(&self) -> Flags {
+        match *self {
+            Work::Leaf { .. } | Work::Project { .. } | Work::Product { .. } => Flags::NONE,
+            Work::SelectValue { x, .. } => Flags::of(&[x]),
+            Work::SelectPair { x, y, .. } | Work::Join { x, y, .. } => Flags::of(&[x, y]),
+            Work::Aggregate { set, x, .. } => set.or(&Flags::of(&[x])),
+            Work::Count { set, .. } | Work::Function { set, .. } => set,
+        }
+    }
+
+    /// Kinds that need all they read in one form.
+    pub fn reads_together(&self) -> bool {
+        matches!(self, Work::SelectPair { .. } | Work::Join { .. } | Work::Function { .. })
+    }
+
+    /// What is visible after, given all that is visible in the operands.
+    pub fn visible_after(&self, before: &Flags) -> Flags {
+        match *self {
+            Work::Leaf { set, .. } | Work::Project { set, .. } | Work::Count { set, .. } => set,
+            Work::SelectValue { .. }
+            | Work::SelectPair { .. }
+            | Work::Product { .. }
+            | Work::Join { .. } => *before,
+            Work::Aggregate { set, x, .. } => set.or(&Flags::of(&[x])),
+            Work::Function { set, x, .. } => before.minus(&set).or(&Flags::of(&[x])),
+        }
+    }
+}
+
+#[derive(Clone, PartialEq, Debug)]
+pub struct Node {
+    pub work: Work,
+    pub needed: Flags,
+    pub size: u64,
+}
+
+#[derive(Clone, PartialEq, Debug)]
+pub struct File {
+    pub subjects: usize,
+    pub attributes: usize,
+    pub allowed: u32,
+    pub relations: Vec<Relation>,
+    pub grants: Vec<Grant>,
+    pub nodes: Vec<Node>,
+    pub step_prices: Vec<Vec<u64>>,
+    pub link_prices: Vec<Vec<u64>>,
+}
+
+/// Where each section starts.
+pub struct Layout {
+    pub grants: usize,
+    pub nodes: usize,
+    pub step_prices: usize,
+    pub link_prices: usize,
+    pub end: usize,
+}
+
+impl Layout {
+    pub fn new(subjects: usize, relations: usize, grants: usize, nodes: usize) -> Layout {
+        let grants_at = HEADER + RELATION * relations;
+        let nodes_at = grants_at + GRANT * grants;
+        let step_prices = nodes_at + NODE * nodes;
+        let link_prices = step_prices + 4 * nodes * subjects;
+        let end = link_prices + 4 * subjects * subjects;
+        Layout { grants: grants_at, nodes: nodes_at, step_prices, link_prices, end }
+    }
+}
+
+impl File {
+    pub fn layout(&self) -> Layout {
+        Layout::new(self.subjects, self.relations.len(), self.grants.len(), self.nodes.len())
+    }
+
+    /// The owner where the node is a leaf.
+    pub fn owner_at(&self, node: usize) -> Option<usize> {
+        match self.nodes[node].work {
+            Work::Leaf { relation, .. } => Some(self.relations[relation].owner),
+            _ => None,
+        }
+    }
+
+    pub fn root(&self) -> usize {
+        self.nodes.len() - 1
+    }
+
+    pub fn write(&self) -> Vec<u8> {
+        let mut out = b"AXP\x00\x01".to_vec();
+        let counts = [self.subjects, self.relations.len(), self.attributes, self.nodes.len()];
+        out.extend(counts.map(|count| count as u8));
+        out.extend((self.grants.len() as u16).to_be_bytes());
+        out.extend(self.allowed.to_be_bytes());
+        for relation in &self.relations {
+            out.push(relation.owner as u8);
+            out.extend(relation.set.bits().to_be_bytes());
+        }
+        for grant in &self.grants {
+            out.push(grant.relation as u8);
+            out.push(grant.subject.map_or(ANY, |subject| subject as u8));
+            out.extend(grant.clear.bits().to_be_bytes());
+            out.extend(grant.sealed.bits().to_be_bytes());
+        }
+        for node in &self.nodes {
+            out.extend(node.write());
+        }
+        for &price in self.step_prices.iter().chain(&self.link_prices).flatten() {
+            out.extend((price as u32).to_be_bytes());
+        }
+        out
+    }
+}
+
+impl Node {
+    fn write(&self) -> Vec<u8> {
+        let (x, y, set) = match self.work {
+            Work::Leaf { relation, set } => (Some(relation), None, set),
+            Work::Project { set, .. } | Work::Count { set, .. } => (None, None, set),
+            Work::SelectValue { x, .. } => (Some(x), None, Flags::NONE),
+            Work::SelectPair { x, y, .. } | Work::Join { x, y, .. } => {
+                (Some(x), Some(y), Flags::NONE)
+            }
+            Work::Product { .. } => (None, None, Flags::NONE),
+            Work::Aggregate { set, x, .. } | Work::Function { set, x, .. } => (Some(x), None, set),
+        };
+        let mut children = self.work.children();
+        let byte = |value: Option<usize>| value.map_or(UNUSED, |value| value as u8);
+        let mut out = vec![self.work.kind()];
+        out.extend([byte(children.next()), byte(children.next())]);
+        out.extend([byte(x), byte(y), 0, 0, 0]);
+        out.extend(set.bits().to_be_bytes());
+        out.extend(self.needed.bits().to_be_bytes());
+        out.extend((self.size as u32).to_be_bytes());
+        out
+    }
+}

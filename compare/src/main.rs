@@ -1,0 +1,179 @@
+//! Compares the library with a planner written apart from it, case by case.
+
+mod answers;
+mod choice;
+mod coverage;
+mod damage;
+mod every;
+mod examine;
+mod file;
+mod generate;
+#[cfg(feature = "library")]
+mod library;
+mod night;
+mod planner;
+mod reading;
+mod record;
+mod rng;
+mod run;
+mod sets;
+mod text;
+mod valid;
+mod views;
+
+use std::process::ExitCode;
+use std::time::{Duration, Instant};
+
+use coverage::Coverage;
+use generate::Case;
+use record::Record;
+use rng::Rng;
+
+/// The linked library's record of a case.
+type Linked = fn(&Case, &[usize]) -> Record;
+#[cfg(feature = "library")]
+const LINKED: Option<Linked> = Some(library::record);
+#[cfg(not(feature = "library"))]
+const LINKED: Option<Linked> = None;
+
+struct Options {
+    cases: usize,
+    seed: u64,
+    large_every: usize,
+    lines: usize,
+    answers: Option<String>,
+    night: Option<String>,
+    alone: bool,
+}
+
+fn options() -> Result<Options, String> {
+    let mut options = Options {
+        cases: 100_000,
+        seed: 1,
+        large_every: 50,
+        lines: 1_000,
+        answers: None,
+        night: None,
+        alone: false,
+    };
+    let mut words = std::env::args().skip(1);
+    while let Some(word) = words.next() {
+        let mut value = || words.next().ok_or(format!("{word} needs a value"));
+        let number = |text: String| text.parse::<u64>().map_err(|_| format!("{text}: no number"));
+        match &word[..] {
+            "--alone" => options.alone = true,
+            "--answers" => options.answers = Some(value()?),
+            "--night" => options.night = Some(value()?),
+            "--cases" => options.cases = number(value()?)? as usize,
+            "--seed" => options.seed = number(value()?)?,
+            "--lines" => options.lines = number(value()?)? as usize,
+            "--large" => options.large_every = number(value()?)?.max(1) as usize,
+            _ => return Err(format!("{word}: no such option")),
+        }
+    }
+    if !options.alone && LINKED.is_none() {
+        return Err("built without the library: only --alone can be run".into());
+    }
+    Ok(options)
+}
+
+fn hex(bytes: &[u8]) -> String {
+    bytes.iter().map(|byte| format!("{byte:02x}")).collect()
+}
+
+/// All it takes to make the case again, or to send it by hand.
+fn label(options: &Options, index: usize, case: &Case) -> String {
+    let Case { family, file, offer, rooms, fill } = case;
+    format!(
+        "seed {} case {index} large {} ({family})\nfile {}\noffer {}\n{rooms:?} fill {fill}",
+        options.seed,
+        options.large_every,
+        hex(file),
+        hex(offer)
+    )
+}
+
+/// Which cases go to the program `answers`.
+fn sent(options: &Options) -> Vec<bool> {
+    let lines = if options.answers.is_some() { options.lines.min(options.cases) } else { 0 };
+    let mut marks: Vec<bool> = (0..options.cases).map(|index| index < lines).collect();
+    Rng::new(options.seed, u64::MAX).shuffle(&mut marks);
+    marks
+}
+
+struct Runner {
+    options: Options,
+    coverage: Coverage,
+    stream: answers::Stream,
+    in_library: Duration,
+}
+
+impl Runner {
+    fn case(&mut self, index: usize, send: bool) -> Result<(), String> {
+        let case = generate::case(self.options.seed, index, self.options.large_every);
+        let label = || label(&self.options, index, &case);
+        let study = planner::study(&case.file);
+        examine::examine(&case, &study, &mut self.coverage)
+            .map_err(|text| format!("{}\n{text}", label()))?;
+        if let Some(linked) = LINKED.filter(|_| !self.options.alone) {
+            let asked = record::asked(&study, &case);
+            let expected = record::expected(&study, &case, &asked);
+            let start = Instant::now();
+            let given = linked(&case, &asked);
+            self.in_library += start.elapsed();
+            if given != expected {
+                return Err(format!("{}\nexpected {expected:?}\ngiven    {given:?}", label()));
+            }
+        }
+        if send {
+            self.stream.add(label(), &case, &study);
+        }
+        Ok(())
+    }
+
+    fn lines(&self) -> Result<(), String> {
+        let Some(command) = &self.options.answers else { return Ok(()) };
+        self.stream.compare_all(command)?;
+        let readable = (0..).map(|index| generate::case(self.options.seed, index, usize::MAX));
+        let whole = |case: &Case| planner::study(&case.file).is_ok() && !case.offer.is_empty();
+        let case = readable.into_iter().find(whole).expect("most small cases are readable");
+        answers::compare_cuts(command, &case)?;
+        println!("cases compared line by line: {}", self.stream.len());
+        Ok(())
+    }
+
+    fn all(&mut self) -> Result<(), String> {
+        if let Some(path) = &self.options.night {
+            let bytes = std::fs::read(path).map_err(|error| format!("{path}: {error}"))?;
+            night::check(&bytes)?;
+            println!("the sample night gives its text");
+        }
+        let start = Instant::now();
+        for (index, send) in sent(&self.options).into_iter().enumerate() {
+            self.case(index, send)?;
+        }
+        let (whole, library) = (start.elapsed().as_secs_f64(), self.in_library.as_secs_f64());
+        self.lines()?;
+        println!("cases: {}, seed {}", self.options.cases, self.options.seed);
+        println!("seconds: {whole:.1}, of these in the library {library:.1}");
+        self.coverage.print();
+        self.coverage.too_thin().map_or(Ok(()), Err)
+    }
+}
+
+fn main() -> ExitCode {
+    let done = options().and_then(|options| {
+        let (coverage, stream) = (Coverage::default(), answers::Stream::default());
+        Runner { options, coverage, stream, in_library: Duration::ZERO }.all()
+    });
+    match done {
+        Ok(()) => {
+            println!("no difference");
+            ExitCode::SUCCESS
+        }
+        Err(text) => {
+            println!("FAILED\n{text}");
+            ExitCode::FAILURE
+        }
+    }
+}

@@ -1,0 +1,192 @@
+//! The planner: candidates, steps, the plan with its keys, and the answers of
+//! the two planning calls.
+
+use crate::choice::{self, Options};
+use crate::file::File;
+use crate::reading::{Refusal, read, refuse};
+use crate::sets::{Flags, Ties};
+use crate::views::{Profile, View, may_have, of_subject};
+
+/// A readable file with all that follows from it before any choice.
+pub struct Study {
+    pub file: File,
+    pub views: Vec<View>,
+    pub candidates: Vec<Vec<usize>>,
+    pub plan: Plan,
+    root_ties: Ties,
+}
+
+#[derive(Clone, PartialEq, Debug)]
+pub struct Plan {
+    pub opens: Vec<Flags>,
+    pub seals: Vec<Flags>,
+}
+
+#[derive(Clone, PartialEq, Debug)]
+pub struct Key {
+    /// Rising; the first names the key.
+    pub attributes: Vec<usize>,
+    pub holders: Vec<usize>,
+}
+
+pub struct Answer {
+    pub choice: Vec<usize>,
+    pub keys: Vec<Key>,
+    pub total: u64,
+    /// The planned call alone reports steps.
+    pub steps: Option<u64>,
+}
+
+/// Lengths of the lent rooms, in elements.
+#[derive(Clone, Copy, Debug)]
+pub struct Rooms {
+    pub choice: usize,
+    pub plan: usize,
+    pub keys: usize,
+}
+
+pub fn study(bytes: &[u8]) -> Result<Study, Refusal> {
+    let file = read(bytes)?;
+    let views: Vec<View> = (0..file.subjects).map(|subject| of_subject(&file, subject)).collect();
+    let mut tables: Vec<Profile> = Vec::new();
+    let mut candidates = Vec::new();
+    for node in &file.nodes {
+        let mut asked: Vec<Profile> =
+            node.work.children().map(|c| tables[c].with_clear(&node.needed)).collect();
+        let result = Profile::result(&node.work, &asked);
+        asked.push(result.clone());
+        let fits = |&subject: &usize| asked.iter().all(|table| may_have(&views[subject], table));
+        let steps_alone = if node.work.is_leaf() { 0 } else { file.subjects };
+        candidates.push((0..steps_alone).filter(fits).collect());
+        tables.push(result);
+    }
+    let root_ties = tables.pop().expect("a file has a node").ties;
+    let plan = plan(&file);
+    Ok(Study { file, views, candidates, plan, root_ties })
+}
+
+/// Openings and sealings: the same for every choice.
+fn plan(file: &File) -> Plan {
+    let mut left: Vec<Profile> = Vec::new();
+    let mut plan = Plan { opens: Vec::new(), seals: Vec::new() };
+    for (index, node) in file.nodes.iter().enumerate() {
+        let mut opens = Flags::NONE;
+        let mut operands = Vec::new();
+        for child in node.work.children() {
+            let arrived = &left[child];
+            let opened = arrived.visible_sealed.and(&node.needed);
+            operands.push(arrived.with_clear(&arrived.visible_clear.or(&opened)));
+            opens = opens.or(&opened);
+        }
+        let result = Profile::result(&node.work, &operands);
+        let seals = if index == file.root() { Flags::NONE } else { result.visible_clear };
+        left.push(result.with_clear(&result.visible_clear.minus(&seals)));
+        plan.opens.push(opens);
+        plan.seals.push(seals);
+    }
+    plan
+}
+
+impl Study {
+    /// Where the section of grant records starts, and its length in bytes.
+    pub fn grant_part(&self) -> (usize, usize) {
+        let layout = self.file.layout();
+        (layout.grants, layout.nodes - layout.grants)
+    }
+
+    fn options(&self) -> Options {
+        let nodes = 0..self.file.nodes.len();
+        let of_node = |node: usize| match self.file.owner_at(node) {
+            Some(owner) => vec![owner],
+            None => self.candidates[node].clone(),
+        };
+        nodes.map(of_node).collect()
+    }
+
+    /// What every node may be given, or the lowest step that has nobody.
+    pub fn full_options(&self) -> Result<Options, Refusal> {
+        let options = self.options();
+        match options.iter().position(Vec::is_empty) {
+            Some(node) => refuse(12, node),
+            None => Ok(options),
+        }
+    }
+
+    pub fn steps(&self) -> u64 {
+        let options = self.options();
+        let mut steps = 0;
+        for (parent, node) in self.file.nodes.iter().enumerate() {
+            for child in node.work.children() {
+                steps += options[parent].len() * options[child].len();
+            }
+        }
+        steps as u64
+    }
+
+    /// Whether the choice gives every leaf its owner and every step a
+    /// candidate; if not, the lowest node that it wrongs.
+    pub fn wronged(&self, choice: &[usize]) -> Option<usize> {
+        let options = self.options();
+        (0..choice.len()).find(|&node| !options[node].contains(&choice[node]))
+    }
+
+    pub fn keys(&self, choice: &[usize]) -> Vec<Key> {
+        let Plan { opens, seals } = &self.plan;
+        let mut waiting: Vec<usize> = seals.iter().fold(Flags::NONE, |sum, s| sum.or(s)).list();
+        let mut keys = Vec::new();
+        while let Some(&lowest) = waiting.first() {
+            let (attributes, rest) =
+                waiting.iter().partition(|&&other| self.root_ties.together(lowest, other));
+            waiting = rest;
+            let group = Flags::of(&attributes);
+            let mut holders = Flags::NONE;
+            for (node, &subject) in choice.iter().enumerate() {
+                if opens[node].or(&seals[node]).meets(&group) {
+                    holders.put(subject);
+                }
+            }
+            keys.push(Key { attributes, holders: holders.list() });
+        }
+        keys
+    }
+
+    fn answer(&self, choice: Vec<usize>, steps: Option<u64>) -> Answer {
+        let keys = self.keys(&choice);
+        let total = choice::total(&self.file, &choice);
+        Answer { choice, keys, total, steps }
+    }
+
+    fn room_suffices(&self, rooms: &Rooms) -> Result<(), Refusal> {
+        let nodes = self.file.nodes.len();
+        let wants = [nodes, 2 * nodes, 2 * self.file.attributes];
+        let lent = [rooms.choice, rooms.plan, rooms.keys];
+        match (0..3).find(|&room| lent[room] < wants[room]) {
+            Some(room) => refuse(15, room + 1),
+            None => Ok(()),
+        }
+    }
+
+    pub fn cheapest(&self, rooms: &Rooms) -> Result<Answer, Refusal> {
+        let options = self.full_options()?;
+        let steps = self.steps();
+        if steps > u64::from(self.file.allowed) {
+            return refuse(13, 0);
+        }
+        self.room_suffices(rooms)?;
+        let best = choice::by_recursion(&self.file, &options);
+        Ok(self.answer(best.choice(), Some(steps)))
+    }
+
+    pub fn offered(&self, offer: &[u8], rooms: &Rooms) -> Result<Answer, Refusal> {
+        if offer.len() != self.file.nodes.len() {
+            return refuse(14, self.file.nodes.len());
+        }
+        let choice: Vec<usize> = offer.iter().map(|&subject| subject.into()).collect();
+        if let Some(node) = self.wronged(&choice) {
+            return refuse(14, node);
+        }
+        // The offered call is lent no room for a choice.
+        self.room_suffices(&Rooms { choice: usize::MAX, ..*rooms })?;
+        Ok(self.answer(choice, None))
+    }
+}

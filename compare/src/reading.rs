@@ -1,0 +1,312 @@
+//! Reading a plan file: refusals 1 to 11, in the order of the rules.
+
+use crate::file::*;
+use crate::sets::{Flags, WIDTH};
+use crate::views;
+
+#[derive(Clone, Copy, PartialEq, Eq, Debug)]
+pub struct Refusal {
+    pub number: u64,
+    pub place: u64,
+}
+
+pub fn refuse<T>(number: u64, place: usize) -> Result<T, Refusal> {
+    Err(Refusal { number, place: place as u64 })
+}
+
+fn number(bytes: &[u8], at: usize, width: usize) -> u64 {
+    bytes[at..at + width].iter().fold(0, |sum, &byte| sum * 256 + u64::from(byte))
+}
+
+fn set_at(bytes: &[u8], at: usize) -> Flags {
+    Flags::from_bits(number(bytes, at, 8))
+}
+
+struct Counts {
+    subjects: usize,
+    relations: usize,
+    attributes: usize,
+    nodes: usize,
+    grants: usize,
+}
+
+fn counts(bytes: &[u8]) -> Result<Counts, Refusal> {
+    if bytes.len() < 3 || &bytes[..3] != b"AXP" {
+        return refuse(1, 0);
+    }
+    if bytes.len() < 5 || number(bytes, 3, 2) != 1 {
+        return refuse(2, 0);
+    }
+    if bytes.len() < HEADER {
+        return refuse(3, 0);
+    }
+    let counts = Counts {
+        subjects: bytes[5].into(),
+        relations: bytes[6].into(),
+        attributes: bytes[7].into(),
+        nodes: bytes[8].into(),
+        grants: number(bytes, 9, 2) as usize,
+    };
+    let within = (1..=16).contains(&counts.subjects)
+        && (1..=16).contains(&counts.relations)
+        && (1..=64).contains(&counts.attributes)
+        && (1..=64).contains(&counts.nodes)
+        && counts.grants <= 272;
+    if within { Ok(counts) } else { refuse(4, 0) }
+}
+
+fn relations(bytes: &[u8], counts: &Counts) -> Result<Vec<Relation>, Refusal> {
+    let mut free = Flags::below(counts.attributes);
+    let mut out = Vec::new();
+    for index in 0..counts.relations {
+        let at = HEADER + RELATION * index;
+        let relation = Relation { owner: bytes[at].into(), set: set_at(bytes, at + 1) };
+        // What is not free is out of range or taken: one place for both.
+        if relation.owner >= counts.subjects
+            || relation.set.is_empty()
+            || !relation.set.within(&free)
+        {
+            return refuse(5, index);
+        }
+        free = free.minus(&relation.set);
+        out.push(relation);
+    }
+    if free.is_empty() { Ok(out) } else { refuse(5, counts.relations) }
+}
+
+fn grants(bytes: &[u8], counts: &Counts, relations: &[Relation]) -> Result<Vec<Grant>, Refusal> {
+    let start = HEADER + RELATION * counts.relations;
+    let mut out: Vec<Grant> = Vec::new();
+    for index in 0..counts.grants {
+        let at = start + GRANT * index;
+        let grant = Grant {
+            relation: bytes[at].into(),
+            subject: (bytes[at + 1] != ANY).then(|| bytes[at + 1].into()),
+            clear: set_at(bytes, at + 2),
+            sealed: set_at(bytes, at + 10),
+        };
+        let known = grant.relation < counts.relations
+            && grant.subject.is_none_or(|subject| subject < counts.subjects);
+        let seen = |old: &Grant| old.relation == grant.relation && old.subject == grant.subject;
+        if !known
+            || grant.clear.meets(&grant.sealed)
+            || !grant.clear.or(&grant.sealed).within(&relations[grant.relation].set)
+            || out.iter().any(seen)
+        {
+            return refuse(6, index);
+        }
+        out.push(grant);
+    }
+    Ok(out)
+}
+
+fn owners_see_all(relations: &[Relation], grants: &[Grant]) -> Result<(), Refusal> {
+    for (index, relation) in relations.iter().enumerate() {
+        let view = views::of_relation(grants, index, relation.owner);
+        if view.clear != relation.set {
+            return refuse(7, index);
+        }
+    }
+    Ok(())
+}
+
+/// A node's record as it stands, before anything is known of it.
+struct Record {
+    kind: u8,
+    left: u8,
+    right: u8,
+    x: u8,
+    y: u8,
+    spare: u64,
+    set: Flags,
+    needed: Flags,
+    size: u64,
+}
+
+impl Record {
+    fn at(bytes: &[u8], at: usize) -> Record {
+        Record {
+            kind: bytes[at],
+            left: bytes[at + 1],
+            right: bytes[at + 2],
+            x: bytes[at + 3],
+            y: bytes[at + 4],
+            spare: number(bytes, at + 5, 3),
+            set: set_at(bytes, at + 8),
+            needed: set_at(bytes, at + 16),
+            size: number(bytes, at + 24, 4),
+        }
+    }
+
+    /// Which of left, right, x, y and set the kind uses.
+    fn uses(&self) -> Option<[bool; 5]> {
+        const TABLE: [&str; 9] =
+            ["--x-s", "l---s", "l-x--", "l-xy-", "lr---", "lrxy-", "l-x-s", "l---s", "l-x-s"];
+        let row = TABLE.get(usize::from(self.kind))?.as_bytes();
+        Some(std::array::from_fn(|i| row[i] != b'-'))
+    }
+}
+
+/// What the nodes read so far have brought.
+struct Nodes<'a> {
+    relations: &'a [Relation],
+    nodes: Vec<Node>,
+    visible: Vec<Flags>,
+    has_parent: Vec<bool>,
+    relation_taken: Vec<bool>,
+}
+
+impl Nodes<'_> {
+    /// Rule 8 for the record that comes next.
+    fn well_shaped(&self, record: &Record) -> bool {
+        let Some(uses) = record.uses() else { return false };
+        let fields = [record.left, record.right, record.x, record.y];
+        let unused_left_alone =
+            (0..4).all(|i| uses[i] || fields[i] == UNUSED) && (uses[4] || record.set.is_empty());
+        let free = |child: u8| {
+            let child = usize::from(child);
+            child < self.nodes.len() && !self.has_parent[child]
+        };
+        let children_right = (0..2).all(|i| !uses[i] || free(fields[i]))
+            && !(uses[1] && record.left == record.right);
+        unused_left_alone && children_right && record.spare == 0 && record.size <= MOST_SIZE
+    }
+
+    fn leaf(&self, record: &Record) -> Option<Work> {
+        let relation = usize::from(record.x);
+        let source = self.relations.get(relation)?;
+        let right = !self.relation_taken[relation]
+            && !record.set.is_empty()
+            && record.set.within(&source.set);
+        right.then_some(Work::Leaf { relation, set: record.set })
+    }
+
+    /// Rule 9 for a well-shaped record: the work it stands for, if any.
+    fn work(&self, record: &Record) -> Option<Work> {
+        if record.kind == 0 {
+            return self.leaf(record);
+        }
+        let from = usize::from(record.left);
+        let (left, right) = (from, usize::from(record.right));
+        let seen = |attribute: u8, child: usize| {
+            let attribute = usize::from(attribute);
+            self.visible[child].has(attribute).then_some(attribute)
+        };
+        let x = seen(record.x, from);
+        let set = record.set.within(&self.visible[from]).then_some(record.set);
+        let full = set.filter(|set| !set.is_empty());
+        Some(match record.kind {
+            1 => Work::Project { from, set: full? },
+            2 => Work::SelectValue { from, x: x? },
+            3 => Work::SelectPair { from, x: x?, y: seen(record.y, from)? },
+            4 => Work::Product { left, right },
+            5 => Work::Join { left, right, x: x?, y: seen(record.y, right)? },
+            6 => Work::Aggregate { from, set: set?, x: x.filter(|&x| !record.set.has(x))? },
+            7 => Work::Count { from, set: full? },
+            _ => Work::Function { from, set: full?, x: x.filter(|&x| record.set.has(x))? },
+        })
+    }
+
+    fn take(&mut self, record: &Record) -> Result<(), Refusal> {
+        let index = self.nodes.len();
+        if !self.well_shaped(record) {
+            return refuse(8, index);
+        }
+        let Some(work) = self.work(record) else { return refuse(9, index) };
+        let (reads, needed) = (work.reads(), record.needed);
+        let half = work.reads_together() && !needed.is_empty() && needed != reads;
+        if !needed.within(&reads) || half {
+            return refuse(10, index);
+        }
+        let mut before = Flags::NONE;
+        for child in work.children() {
+            before = before.or(&self.visible[child]);
+            self.has_parent[child] = true;
+        }
+        if let Work::Leaf { relation, .. } = work {
+            self.relation_taken[relation] = true;
+        }
+        self.visible.push(work.visible_after(&before));
+        self.nodes.push(Node { work, needed, size: record.size });
+        Ok(())
+    }
+}
+
+fn nodes(
+    bytes: &[u8],
+    at: usize,
+    count: usize,
+    relations: &[Relation],
+) -> Result<Vec<Node>, Refusal> {
+    let mut read = Nodes {
+        relations,
+        nodes: Vec::new(),
+        visible: Vec::new(),
+        has_parent: vec![false; WIDTH],
+        relation_taken: vec![false; relations.len()],
+    };
+    for index in 0..count {
+        read.take(&Record::at(bytes, at + NODE * index))?;
+    }
+    match (0..count - 1).find(|&node| !read.has_parent[node]) {
+        Some(orphan) => refuse(8, orphan),
+        None => Ok(read.nodes),
+    }
+}
+
+/// Rows of prices, the first of them at the running index `first`.
+fn prices(
+    bytes: &[u8],
+    at: usize,
+    first: usize,
+    most: &[Vec<u64>],
+) -> Result<Vec<Vec<u64>>, Refusal> {
+    let mut index = 0;
+    let mut out = Vec::new();
+    for row in most {
+        let mut read = Vec::new();
+        for &limit in row {
+            let price = number(bytes, at + 4 * index, 4);
+            if price > limit {
+                return refuse(11, first + index);
+            }
+            read.push(price);
+            index += 1;
+        }
+        out.push(read);
+    }
+    Ok(out)
+}
+
+pub fn read(bytes: &[u8]) -> Result<File, Refusal> {
+    let counts = counts(bytes)?;
+    let subjects = counts.subjects;
+    let layout = Layout::new(subjects, counts.relations, counts.grants, counts.nodes);
+    if bytes.len() != layout.end {
+        return refuse(3, 0);
+    }
+    let relations = relations(bytes, &counts)?;
+    let grants = grants(bytes, &counts, &relations)?;
+    owners_see_all(&relations, &grants)?;
+    let nodes = nodes(bytes, layout.nodes, counts.nodes, &relations)?;
+    // Where 0 is fixed, the most that a price may be is 0.
+    let most_step = |node: &Node| if node.work.is_leaf() { 0 } else { MOST_STEP_PRICE };
+    let step_limits: Vec<Vec<u64>> =
+        nodes.iter().map(|node| vec![most_step(node); subjects]).collect();
+    let link_limits: Vec<Vec<u64>> = (0..subjects)
+        .map(|from| (0..subjects).map(|to| if from == to { 0 } else { MOST_LINK_PRICE }).collect())
+        .collect();
+    let step_prices = prices(bytes, layout.step_prices, 0, &step_limits)?;
+    let first_link = counts.nodes * subjects;
+    let link_prices = prices(bytes, layout.link_prices, first_link, &link_limits)?;
+    Ok(File {
+        subjects,
+        attributes: counts.attributes,
+        allowed: number(bytes, 11, 4) as u32,
+        relations,
+        grants,
+        nodes,
+        step_prices,
+        link_prices,
+    })
+}

@@ -1,0 +1,121 @@
+//! All that the calls of the library give for one case, refused or not.
+
+use crate::generate::Case;
+use crate::planner::{Answer, Rooms, Study};
+use crate::reading::Refusal;
+use crate::sets::Flags;
+
+/// Elements kept beyond each room, which no call may touch.
+const GUARD: usize = 8;
+
+#[derive(PartialEq, Debug)]
+pub struct Outcome {
+    pub code: u64,
+    pub choice: Vec<u8>,
+    pub plan: Vec<u64>,
+    pub keys: Vec<u64>,
+    pub total: u64,
+    pub steps: u32,
+}
+
+#[derive(PartialEq, Debug)]
+pub struct Record {
+    pub check: u64,
+    /// Code, start and length.
+    pub grants: [u64; 3],
+    /// Of each node asked: code and set.
+    pub candidates: Vec<(u64, u16)>,
+    pub cheapest: Outcome,
+    pub offered: Outcome,
+}
+
+impl Outcome {
+    /// What a call that writes nothing leaves.
+    pub fn untouched(rooms: &Rooms, fill: u8) -> Outcome {
+        let wide = u64::from_ne_bytes([fill; 8]);
+        Outcome {
+            code: 0,
+            choice: vec![fill; rooms.choice + GUARD],
+            plan: vec![wide; rooms.plan + GUARD],
+            keys: vec![wide; rooms.keys + GUARD],
+            total: wide,
+            steps: wide as u32,
+        }
+    }
+
+    fn expected(
+        study: &Result<Study, Refusal>,
+        case: &Case,
+        ask: impl Fn(&Study) -> Result<Answer, Refusal>,
+    ) -> Outcome {
+        let mut outcome = Outcome::untouched(&case.rooms, case.fill);
+        match study.as_ref().map_err(|refusal| *refusal).and_then(|s| Ok((s, ask(s)?))) {
+            Ok((study, answer)) => outcome.fill_in(study, &answer),
+            Err(refusal) => outcome.code = code(&refusal),
+        }
+        outcome
+    }
+
+    fn fill_in(&mut self, study: &Study, answer: &Answer) {
+        let Answer { choice, keys, total, steps } = answer;
+        // Only the call that finds a choice is lent room for it.
+        if let Some(steps) = *steps {
+            self.steps = steps as u32;
+            for (node, &subject) in choice.iter().enumerate() {
+                self.choice[node] = subject as u8;
+            }
+        }
+        for node in 0..choice.len() {
+            self.plan[2 * node] = study.plan.opens[node].bits();
+            self.plan[2 * node + 1] = study.plan.seals[node].bits();
+        }
+        for attribute in 0..study.file.attributes {
+            self.keys[2 * attribute] = 64;
+            self.keys[2 * attribute + 1] = 0;
+        }
+        for key in keys {
+            for attribute in &key.attributes {
+                self.keys[2 * attribute] = key.attributes[0] as u64;
+                self.keys[2 * attribute + 1] = Flags::of(&key.holders).bits();
+            }
+        }
+        self.total = *total;
+    }
+}
+
+pub fn code(refusal: &Refusal) -> u64 {
+    refusal.number << 32 | refusal.place
+}
+
+/// The nodes whose candidates are asked: all, the number after the last, and
+/// one far past it.
+pub fn asked(study: &Result<Study, Refusal>, case: &Case) -> Vec<usize> {
+    let nodes = study.as_ref().map_or(1, |study| study.file.nodes.len());
+    let far = [nodes + 1, 255, 1 << 32, usize::MAX][usize::from(case.fill) % 4];
+    (0..=nodes).chain([far]).collect()
+}
+
+pub fn expected(study: &Result<Study, Refusal>, case: &Case, asked: &[usize]) -> Record {
+    let untouched = u64::from_ne_bytes([case.fill; 8]);
+    let candidates = |&node: &usize| match study {
+        Err(refusal) => (code(refusal), untouched as u16),
+        Ok(study) => {
+            let set = study.candidates.get(node).map_or(0, |list| Flags::of(list).bits());
+            (0, set as u16)
+        }
+    };
+    let grants = match study {
+        Err(refusal) => [code(refusal), untouched, untouched],
+        Ok(study) => {
+            let (from, length) = study.grant_part();
+            [0, from as u64, length as u64]
+        }
+    };
+    Record {
+        check: study.as_ref().err().map_or(0, code),
+        grants,
+        candidates: asked.iter().map(candidates).collect(),
+        cheapest: Outcome::expected(study, case, |study| study.cheapest(&case.rooms)),
+        offered: Outcome::expected(study, case, |study| study.offered(&case.offer, &case.rooms)),
+    }
+}

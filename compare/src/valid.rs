@@ -1,0 +1,302 @@
+//! Valid files, made as the rules' own terms and then written.
+
+use crate::file::*;
+use crate::rng::Rng;
+use crate::sets::Flags;
+
+#[derive(Clone, Copy)]
+pub enum Size {
+    /// Few enough nodes and attributes for every plan to be tried.
+    Tiny,
+    Small,
+    /// Few attributes in many steps, so that each is tested, tied and dropped.
+    Deep,
+    Medium,
+    Large,
+    /// Every count at its limit.
+    Longest,
+}
+
+/// Counts that a tree with all its leaves can have.
+struct Shape {
+    subjects: usize,
+    relations: usize,
+    attributes: usize,
+    nodes: usize,
+    leaves: usize,
+}
+
+fn shape(rng: &mut Rng, size: Size) -> Shape {
+    let (subjects, most_relations, most_attributes, most_nodes) = match size {
+        Size::Tiny => (rng.within(1, 3), 2, 3, 5),
+        Size::Small => (rng.within(1, 5), 4, 9, 10),
+        Size::Deep => (rng.within(3, 12), 2, 4, 9),
+        Size::Medium => (rng.within(1, 9), 8, 24, 24),
+        Size::Large => (rng.within(8, 16), 16, 64, 64),
+        Size::Longest => (16, 16, 64, 64),
+    };
+    let longest = matches!(size, Size::Longest);
+    let mut up_to = |low: usize, most: usize| if longest { most } else { rng.within(low, most) };
+    let relations = up_to(1, most_relations);
+    let attributes = up_to(relations, most_attributes);
+    let nodes = up_to(if matches!(size, Size::Large) { 24 } else { 1 }, most_nodes);
+    let leaves = up_to(1, relations.min(nodes.div_ceil(2)));
+    Shape { subjects, relations, attributes, nodes, leaves }
+}
+
+fn relations(rng: &mut Rng, shape: &Shape) -> Vec<Relation> {
+    let mut attributes: Vec<usize> = (0..shape.attributes).collect();
+    rng.shuffle(&mut attributes);
+    let mut sets = vec![Flags::NONE; shape.relations];
+    for (turn, &attribute) in attributes.iter().enumerate() {
+        let index = if turn < shape.relations { turn } else { rng.below(shape.relations) };
+        sets[index].put(attribute);
+    }
+    sets.into_iter().map(|set| Relation { owner: rng.below(shape.subjects), set }).collect()
+}
+
+#[derive(Clone, Copy)]
+enum Pattern {
+    NoGrant,
+    AllClear,
+    AllSealed,
+    NothingSeen,
+    /// Each attribute clear, sealed or unseen.
+    Split,
+    /// All sealed but a few clear.
+    FewClear,
+    /// All in one form but one attribute, which tells just what is asked.
+    AllButOne,
+}
+
+/// How a file's grants are drawn: a list of patterns, each as likely.
+const MOODS: [&[Pattern]; 8] = [
+    &[Pattern::AllButOne, Pattern::AllButOne, Pattern::AllButOne, Pattern::AllClear],
+    &[Pattern::AllButOne, Pattern::AllClear, Pattern::AllSealed, Pattern::NothingSeen],
+    &[Pattern::AllClear, Pattern::AllClear, Pattern::AllSealed, Pattern::NoGrant],
+    &[Pattern::AllSealed, Pattern::AllSealed, Pattern::AllSealed, Pattern::FewClear],
+    &[Pattern::AllSealed, Pattern::FewClear, Pattern::AllClear, Pattern::Split],
+    &[Pattern::NoGrant, Pattern::AllClear, Pattern::NoGrant, Pattern::NothingSeen],
+    &[Pattern::NoGrant, Pattern::NothingSeen, Pattern::Split, Pattern::AllSealed],
+    &[Pattern::AllClear, Pattern::AllSealed, Pattern::NothingSeen, Pattern::Split],
+];
+
+fn all_but_one(rng: &mut Rng, all: &Flags) -> (Flags, Flags) {
+    let one = Flags::of(&[rng.pick(&all.list())]);
+    let (rest, other) = (all.minus(&one), if rng.percent(60) { Flags::NONE } else { one });
+    if rng.percent(50) { (rest, other) } else { (other, rest) }
+}
+
+fn sets(rng: &mut Rng, pattern: Pattern, all: &Flags) -> Option<(Flags, Flags)> {
+    let clear = match pattern {
+        Pattern::NoGrant => return None,
+        Pattern::AllButOne => return Some(all_but_one(rng, all)),
+        Pattern::AllClear => *all,
+        Pattern::AllSealed | Pattern::NothingSeen => Flags::NONE,
+        Pattern::Split => subset(rng, all, 45),
+        Pattern::FewClear => subset(rng, all, 25),
+    };
+    let rest = all.minus(&clear);
+    Some(match pattern {
+        Pattern::NothingSeen => (Flags::NONE, Flags::NONE),
+        Pattern::Split => (clear, subset(rng, &rest, 60)),
+        _ => (clear, rest),
+    })
+}
+
+fn subset(rng: &mut Rng, of: &Flags, chance: usize) -> Flags {
+    let held: Vec<usize> = of.list().into_iter().filter(|_| rng.percent(chance)).collect();
+    Flags::of(&held)
+}
+
+fn nonempty_subset(rng: &mut Rng, of: &Flags, chance: usize) -> Flags {
+    let sure = rng.pick(&of.list());
+    subset(rng, of, chance).or(&Flags::of(&[sure]))
+}
+
+fn grants(rng: &mut Rng, shape: &Shape, relations: &[Relation], full: bool) -> Vec<Grant> {
+    let mood = rng.pick(&MOODS);
+    let mut out = Vec::new();
+    for (relation, Relation { owner, set }) in relations.iter().enumerate() {
+        let own = full || rng.percent(70);
+        for subject in (0..shape.subjects).map(Some).chain([None]) {
+            // Either the owner's own grant shows it all, or the one to any.
+            let fixed = if subject == Some(*owner) { Some(own) } else { None };
+            let pattern = match fixed {
+                Some(true) => Pattern::AllClear,
+                Some(false) => Pattern::NoGrant,
+                None if subject.is_none() && !own => Pattern::AllClear,
+                None if full => Pattern::FewClear,
+                None => rng.pick(mood),
+            };
+            if let Some((clear, sealed)) = sets(rng, pattern, set) {
+                out.push(Grant { relation, subject, clear, sealed });
+            }
+        }
+    }
+    rng.shuffle(&mut out);
+    out
+}
+
+/// Trees still growing: nodes made so far and those without a parent.
+struct Forest<'a> {
+    rng: &'a mut Rng,
+    relations: &'a [Relation],
+    untaken: Vec<usize>,
+    nodes: Vec<Node>,
+    roots: Vec<(usize, Flags)>,
+    need_chance: usize,
+    /// Used again and again: parts that must outlive a column show only when
+    /// it is tested in one form, used in the other, and then dropped.
+    favourite: usize,
+}
+
+impl Forest<'_> {
+    fn take_root(&mut self) -> (usize, Flags) {
+        let at = self.rng.below(self.roots.len());
+        self.roots.swap_remove(at)
+    }
+
+    fn add(&mut self, work: Work, before: &Flags) {
+        let reads = work.reads();
+        let needs = self.rng.percent(self.need_chance);
+        let needed = match (needs, work.reads_together()) {
+            (false, _) => Flags::NONE,
+            (true, true) => reads,
+            (true, false) => subset(self.rng, &reads, 60),
+        };
+        self.roots.push((self.nodes.len(), work.visible_after(before)));
+        self.nodes.push(Node { work, needed, size: 0 });
+    }
+
+    fn leaf(&mut self) {
+        let relation = self.untaken.pop().expect("no more leaves than relations");
+        let density = self.rng.pick(&[30, 70, 100]);
+        let set = nonempty_subset(self.rng, &self.relations[relation].set, density);
+        self.add(Work::Leaf { relation, set }, &Flags::NONE);
+    }
+
+    fn binary(&mut self) {
+        let (left, left_seen) = self.take_root();
+        let (right, right_seen) = self.take_root();
+        let work = if self.rng.percent(35) {
+            Work::Product { left, right }
+        } else {
+            let x = self.rng.pick(&left_seen.list());
+            let y = self.rng.pick(&right_seen.list());
+            Work::Join { left, right, x, y }
+        };
+        self.add(work, &left_seen.or(&right_seen));
+    }
+
+    fn unary(&mut self) {
+        let (from, seen) = self.take_root();
+        let rng = &mut *self.rng;
+        let attributes = seen.list();
+        let (any, y) = (rng.pick(&attributes), rng.pick(&attributes));
+        let again = seen.has(self.favourite) && rng.percent(40);
+        let x = if again { self.favourite } else { any };
+        let only_x = Flags::of(&[x]);
+        let work = match rng.below(12) {
+            0 | 1 => Work::Project { from, set: nonempty_subset(rng, &seen, 75) },
+            2..=4 => Work::SelectValue { from, x },
+            5 | 6 => Work::SelectPair { from, x, y },
+            7 | 8 => Work::Aggregate { from, set: subset(rng, &seen.minus(&only_x), 60), x },
+            9 => Work::Count { from, set: nonempty_subset(rng, &seen, 70) },
+            _ => Work::Function { from, set: subset(rng, &seen, 25).or(&only_x), x },
+        };
+        self.add(work, &seen);
+    }
+
+    /// Grows `leaves` leaves into trees of `nodes` nodes in all, so many of
+    /// them in the end as `trees` says.
+    fn grow(&mut self, nodes: usize, leaves: usize, trees: usize) {
+        let (mut leaf, mut binary) = (leaves, leaves - trees);
+        let mut unary = nodes - leaf - binary;
+        while leaf + binary + unary > 0 {
+            let can_join = binary > 0 && self.roots.len() > 1;
+            let can_work = unary > 0 && !self.roots.is_empty();
+            match self.rng.below(3) {
+                0 if leaf > 0 => {
+                    leaf -= 1;
+                    self.leaf();
+                }
+                1 if can_join => {
+                    binary -= 1;
+                    self.binary();
+                }
+                2 if can_work => {
+                    unary -= 1;
+                    self.unary();
+                }
+                _ => {}
+            }
+        }
+    }
+}
+
+/// A price of the file's mood: few values make ties, the highest the edge.
+fn price(rng: &mut Rng, mood: usize, most: u64) -> u64 {
+    match mood {
+        0 => 0,
+        1 => 1,
+        2 => rng.below(2) as u64,
+        3 => rng.within(1, 3) as u64,
+        4 => rng.within(0, 30) as u64,
+        5 => most,
+        6 => most - rng.below(3) as u64,
+        _ => rng.next() % (most + 1),
+    }
+}
+
+fn prices(rng: &mut Rng, file: &mut File) {
+    let moods = [rng.below(8), rng.below(8), rng.below(8)];
+    for node in &mut file.nodes {
+        node.size = price(rng, moods[0], MOST_SIZE);
+    }
+    for node in &file.nodes {
+        let leaf = node.work.is_leaf();
+        let of_step = |_| if leaf { 0 } else { price(rng, moods[1], MOST_STEP_PRICE) };
+        file.step_prices.push((0..file.subjects).map(of_step).collect());
+    }
+    for from in 0..file.subjects {
+        let of_link = |to| if from == to { 0 } else { price(rng, moods[2], MOST_LINK_PRICE) };
+        file.link_prices.push((0..file.subjects).map(of_link).collect());
+    }
+}
+
+/// A file that keeps every rule, save that a part of those asked for `torn`
+/// have more than one tree. Any number of steps is allowed in it.
+pub fn file(rng: &mut Rng, size: Size, torn: bool) -> File {
+    let shape = shape(rng, size);
+    let relations = relations(rng, &shape);
+    let grants = grants(rng, &shape, &relations, matches!(size, Size::Longest));
+    let mut untaken: Vec<usize> = (0..shape.relations).collect();
+    rng.shuffle(&mut untaken);
+    let trees = if torn { rng.within(1, shape.leaves.min(3)) } else { 1 };
+    let need_chance = rng.pick(&[0, 20, 50, 90]);
+    let favourite = rng.below(shape.attributes);
+    let mut forest = Forest {
+        rng,
+        relations: &relations,
+        untaken,
+        nodes: Vec::new(),
+        roots: Vec::new(),
+        need_chance,
+        favourite,
+    };
+    forest.grow(shape.nodes, shape.leaves, trees);
+    let nodes = forest.nodes;
+    let mut file = File {
+        subjects: shape.subjects,
+        attributes: shape.attributes,
+        allowed: u32::MAX,
+        relations,
+        grants,
+        nodes,
+        step_prices: Vec::new(),
+        link_prices: Vec::new(),
+    };
+    prices(rng, &mut file);
+    file
+}

@@ -1,0 +1,119 @@
+// The records of a plan file, read where they stand, from what a view of it holds. A record past its section is all zeros.
+use crate::bytes;
+use crate::places;
+use night::Grant;
+use night::Header;
+use night::Node;
+use night::Relation;
+ghost use mathlib.Core.Path.{_≡_};
+ghost use Prim.Native.Nat.{_<_, _^_};
+ghost use Rattle.layout.specs.Layout.{relationAt, grantAt, nodeAt, nightIn, nthPrice};
+ghost use Rattle.night.specs.Night.{relationOf, grantOf, nodeOf, noNode};
+
+// Relation i, where the header is h.
+pub(crate) fn relation(i: usize, file: &[u8], h: Header) -> Relation
+    ensures { λ r. ⌜ r ≡ relationOf (nightIn (now (file .entry)) h) i ⌝ }
+{
+    if h.relations as usize <= i {
+        return Relation { owner: 0, set: 0 };
+    }
+    relation_at(file, places::HEADER_LENGTH + places::RELATION_LENGTH * i)
+}
+
+// Grant i, where the header is h.
+pub(crate) fn grant(i: usize, file: &[u8], h: Header) -> Grant
+    ensures { λ r. ⌜ r ≡ grantOf (nightIn (now (file .entry)) h) i ⌝ }
+{
+    if h.grants as usize <= i {
+        return Grant {
+            relation: 0,
+            subject: 0,
+            clear: 0,
+            sealed: 0,
+        };
+    }
+    grant_at(file, places::grants_from(h) + places::GRANT_LENGTH * i)
+}
+
+// Node i, where the header is h.
+pub(crate) fn node(i: usize, file: &[u8], h: Header) -> Node
+    ensures { λ r. ⌜ r ≡ nodeOf (nightIn (now (file .entry)) h) i ⌝ }
+{
+    if h.nodes as usize <= i {
+        return no_node();
+    }
+    node_at(file, places::nodes_from(h) + places::NODE_LENGTH * i)
+}
+
+// Price i of all, step prices first, where the header is h.
+pub(crate) fn price(i: usize, file: &[u8], h: Header) -> u32
+    ensures { λ r. ⌜ r ≡ nthPrice (now (file .entry)) h i ⌝ }
+{
+    if places::prices(h) <= i {
+        return 0;
+    }
+    bytes::four(file, places::step_prices_from(h) + 4 * i)
+}
+
+// A relation's record.
+fn relation_at(file: &[u8], at: usize) -> Relation
+    requires { ⌜ at < 2 ^ 31 ⌝ }
+    ensures { λ r. ⌜ r ≡ relationAt (now (file .entry)) at ⌝ }
+{
+    Relation {
+        owner: bytes::byte(file, at),
+        set: bytes::eight(file, at + 1),
+    }
+}
+
+// A grant's record.
+fn grant_at(file: &[u8], at: usize) -> Grant
+    requires { ⌜ at < 2 ^ 31 ⌝ }
+    ensures { λ r. ⌜ r ≡ grantAt (now (file .entry)) at ⌝ }
+{
+    Grant {
+        relation: bytes::byte(file, at),
+        subject: bytes::byte(file, at + 1),
+        clear: bytes::eight(file, at + 2),
+        sealed: bytes::eight(file, at + 10),
+    }
+}
+
+// A node's record.
+fn node_at(file: &[u8], at: usize) -> Node
+    requires { ⌜ at < 2 ^ 31 ⌝ }
+    ensures { λ r. ⌜ r ≡ nodeAt (now (file .entry)) at ⌝ }
+{
+    Node {
+        kind: bytes::byte(file, at),
+        left: bytes::byte(file, at + 1),
+        right: bytes::byte(file, at + 2),
+        x: bytes::byte(file, at + 3),
+        y: bytes::byte(file, at + 4),
+        spare1: bytes::byte(file, at + 5),
+        spare2: bytes::byte(file, at + 6),
+        spare3: bytes::byte(file, at + 7),
+        set: bytes::eight(file, at + 8),
+        needed: bytes::eight(file, at + 16),
+        size: bytes::four(file, at + 24),
+    }
+}
+
+// What stands past the nodes.
+fn no_node() -> Node
+    ensures { λ r. ⌜ r ≡ noNode ⌝ }
+{
+    Node {
+        kind: 0,
+        left: 0,
+        right: 0,
+        x: 0,
+        y: 0,
+        spare1: 0,
+        spare2: 0,
+        spare3: 0,
+        set: 0,
+        needed: 0,
+        size: 0,
+    }
+}
