@@ -11,7 +11,7 @@ ghost use Prim.Native.Nat.{_≤_};
 ghost use lib.ListN.{length};
 
 // Answers case k, with rooms of n bytes, p and q numbers.
-pub fn answer(k: u64, file: &[u8], offer: &[u8], n: usize, p: usize, q: usize)
+pub(crate) fn answer(k: u64, file: &[u8], offer: &[u8], n: usize, p: usize, q: usize)
     requires { ⌜ (n ≤ 64) × (p ≤ 128) × (q ≤ 128) ⌝ }
 {
     io::write_all(1, b"case ");
