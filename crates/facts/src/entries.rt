@@ -8,7 +8,7 @@ ghost use Prim.Native.Nat.{_≤_};
 ghost use lib.ListN.{length};
 
 // Asks the entry: 1 cheapest, 2 offered, else check. `how` holds the entry and the lengths of the rooms.
-pub fn ask(how: &[u8], offer: &[u8], file: &[u8]) {
+pub(crate) fn ask(how: &[u8], offer: &[u8], file: &[u8]) {
     if how.len() < 4 {
         return;
     }
