@@ -141,7 +141,7 @@ def main():
     data = sample()
     with open("samples/night.axp", "wb") as out:
         out.write(data)
-    with open("crates/reading/specs/Sample.antt", "w", encoding="utf-8") as out:
+    with open("crates/trials/specs/Sample.antt", "w", encoding="utf-8") as out:
         out.write(
             "-- Document 01's sample night as bytes, written by samples/night.py.\n"
             "use Prim.Native.Nat.{ℕ}\n"

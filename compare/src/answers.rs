@@ -1,11 +1,8 @@
 //! The program `answers`: cases over its standard input, its lines compared.
 
-use std::io::Write;
-use std::path::Path;
-use std::process::{Command, Stdio};
-
 use crate::generate::{Case, LONGEST_OFFER, LONGEST_TAKEN};
 use crate::planner::{Rooms, Study, study};
+use crate::program::ask;
 use crate::reading::Refusal;
 use crate::text;
 
@@ -60,34 +57,13 @@ impl Stream {
     }
 }
 
-fn ask(command: &str, input: Vec<u8>) -> Result<String, String> {
-    let mut asked = if Path::new(command).is_file() {
-        Command::new(command)
-    } else {
-        let mut shell = Command::new("sh");
-        shell.args(["-c", command]);
-        shell
-    };
-    let text = |error: std::io::Error| format!("{command}: {error}");
-    let mut child = asked.stdin(Stdio::piped()).stdout(Stdio::piped()).spawn().map_err(text)?;
-    let mut stdin = child.stdin.take().expect("piped");
-    // A thread of its own, or both sides would wait for each other's pipe. A
-    // run that ends with `cut` need not read on, so a broken pipe is no fault.
-    let writer = std::thread::spawn(move || {
-        let _ = stdin.write_all(&input);
-    });
-    let output = child.wait_with_output().map_err(text)?;
-    writer.join().map_err(|_| "the writing thread failed".to_owned())?;
-    String::from_utf8(output.stdout).map_err(|_| format!("{command}: printed no text"))
-}
-
 /// Runs that end early, and lengths just within what is taken.
 pub fn compare_cuts(command: &str, case: &Case) -> Result<(), String> {
     let widest = Case {
         family: "widest",
         file: vec![b'A'; LONGEST_TAKEN],
         offer: vec![0; LONGEST_OFFER],
-        ..*case
+        ..case.clone()
     };
     let mut lead = Stream::default();
     lead.add("before the cut".into(), case, &study(&case.file));

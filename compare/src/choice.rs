@@ -5,21 +5,22 @@ use crate::file::File;
 /// Of each node, the subjects it may be given, rising.
 pub type Options = Vec<Vec<usize>>;
 
-/// A total, and the subjects from the last node to the first: ordered as the
-/// rules compare choices, the total first, then number by number.
+/// A total, and the subjects in the order in which they are compared, by the
+/// rules from the last node to the first: the total first, then number by
+/// number.
 #[derive(Clone, PartialEq, Eq, PartialOrd, Ord, Debug)]
 pub struct Ranked {
     pub total: u64,
-    reversed: Vec<usize>,
+    compared: Vec<usize>,
 }
 
 impl Ranked {
     fn of(file: &File, choice: &[usize]) -> Ranked {
-        Ranked { total: total(file, choice), reversed: choice.iter().rev().copied().collect() }
+        Ranked { total: total(file, choice), compared: choice.iter().rev().copied().collect() }
     }
 
     pub fn choice(&self) -> Vec<usize> {
-        self.reversed.iter().rev().copied().collect()
+        self.compared.iter().rev().copied().collect()
     }
 }
 
@@ -79,45 +80,61 @@ pub fn by_enumeration(file: &File, options: &Options) -> (Ranked, usize) {
     (best.expect("every node has an option"), equals)
 }
 
-/// Of each option of a node, the best that the tree below it can be. Nodes
-/// outside that tree stand as 0 in every list, so lists of one tree compare as
-/// the rules say.
-fn below(file: &File, options: &Options, node: usize) -> Vec<Ranked> {
-    let work = &file.nodes[node].work;
-    let children: Vec<(usize, Vec<Ranked>)> =
-        work.children().map(|c| (c, below(file, options, c))).collect();
-    let place = file.root() - node;
-    let of_subject = |&subject: &usize| {
-        let mut sum =
-            Ranked { total: file.step_prices[node][subject], reversed: vec![0; file.nodes.len()] };
-        sum.reversed[place] = subject;
-        for (child, trees) in &children {
-            let best = cheapest_child(file, *child, &options[*child], trees, subject);
-            sum.total += best.total;
-            for (into, from) in sum.reversed.iter_mut().zip(best.reversed) {
-                *into += from;
-            }
-        }
-        sum
-    };
-    options[node].iter().map(of_subject).collect()
+/// A search that goes down the tree; `places` says where each node's subject
+/// stands in the lists that are compared.
+struct Search<'a> {
+    file: &'a File,
+    options: &'a Options,
+    places: Vec<usize>,
 }
 
-fn cheapest_child(
-    file: &File,
-    child: usize,
-    subjects: &[usize],
-    trees: &[Ranked],
-    parent_subject: usize,
-) -> Ranked {
-    let size = file.nodes[child].size;
-    let cost = |i: usize| trees[i].total + size * file.link_prices[subjects[i]][parent_subject];
-    let best = (0..trees.len())
-        .min_by(|&i, &j| (cost(i), &trees[i].reversed).cmp(&(cost(j), &trees[j].reversed)))
-        .expect("every node has an option");
-    Ranked { total: cost(best), reversed: trees[best].reversed.clone() }
+impl Search<'_> {
+    /// Of each option of a node, the best that the tree below it can be. Nodes
+    /// outside that tree stand as 0 in every list, so lists of one tree compare
+    /// as lists of choices do.
+    fn below(&self, node: usize) -> Vec<Ranked> {
+        let work = &self.file.nodes[node].work;
+        let children: Vec<(usize, Vec<Ranked>)> =
+            work.children().map(|c| (c, self.below(c))).collect();
+        let of_subject = |&subject: &usize| {
+            let total = self.file.step_prices[node][subject];
+            let mut sum = Ranked { total, compared: vec![0; self.places.len()] };
+            sum.compared[self.places[node]] = subject;
+            for (child, trees) in &children {
+                let best = self.cheapest_child(*child, trees, subject);
+                sum.total += best.total;
+                for (into, from) in sum.compared.iter_mut().zip(best.compared) {
+                    *into += from;
+                }
+            }
+            sum
+        };
+        self.options[node].iter().map(of_subject).collect()
+    }
+
+    fn cheapest_child(&self, child: usize, trees: &[Ranked], parent_subject: usize) -> Ranked {
+        let (size, subjects) = (self.file.nodes[child].size, &self.options[child]);
+        let link = |i: usize| self.file.link_prices[subjects[i]][parent_subject];
+        let cost = |i: usize| trees[i].total + size * link(i);
+        let best = (0..trees.len())
+            .min_by(|&i, &j| (cost(i), &trees[i].compared).cmp(&(cost(j), &trees[j].compared)))
+            .expect("every node has an option");
+        Ranked { total: cost(best), compared: trees[best].compared.clone() }
+    }
+
+    fn best(&self) -> Ranked {
+        self.below(self.file.root()).into_iter().min().expect("every node has an option")
+    }
 }
 
 pub fn by_recursion(file: &File, options: &Options) -> Ranked {
-    below(file, options, file.root()).into_iter().min().expect("every node has an option")
+    let places = (0..file.nodes.len()).rev().collect();
+    Search { file, options, places }.best()
+}
+
+/// What the choice would be if equals were compared from the first node on:
+/// where it is another, a case tells the rule from its reverse.
+pub fn compared_from_first(file: &File, options: &Options) -> Vec<usize> {
+    let places = (0..file.nodes.len()).collect();
+    Search { file, options, places }.best().compared
 }

@@ -1,31 +1,102 @@
 //! What the cases have touched, counted so that a silent gap shows.
 
 use crate::every::Tried;
-use crate::planner::{Key, Study};
+use crate::generate::Case;
+use crate::planner::{Answer, Key, Study};
 use crate::reading::Refusal;
+use crate::slips;
 
-/// Fewer cases than this for a refusal number are too few.
-const LEAST: usize = 20;
+/// From so many cases on, with one large file in so many, each line of the
+/// table has to reach its floor: a bit less than what such runs reach.
+pub const FULL: usize = 100_000;
+pub const FULL_LARGE: usize = 100;
+
+/// Floors for refusals 1 to 15.
+const LEAST_REFUSED: [usize; 15] = [
+    1_800, 1_100, 5_000, 1_800, 5_400, 5_600, 550, 4_600, 3_100, 1_000, 1_400, 3_300, 11_000,
+    21_000, 12_000,
+];
+/// Floors for kinds 0 to 8.
+const LEAST_OF_KIND: [usize; 9] =
+    [90_000, 42_000, 64_000, 42_000, 10_000, 19_000, 42_000, 21_000, 42_000];
+/// Floors for the slips, in the order of their names.
+const LEAST_SHOWN: [usize; slips::NAMES.len()] = [22_000, 7_700, 570, 40, 900];
+
+/// From so many nodes and subjects on an answered file counts as broad, and
+/// from so many nodes on an accepted offer as one on a long file.
+const BROAD_NODES: usize = 40;
+const BROAD_SUBJECTS: usize = 10;
+const LONG_NODES: usize = 20;
+/// The limits of a file.
+const MOST_NODES: usize = 64;
+const MOST_SUBJECTS: usize = 16;
+/// A tied set of so many attributes counts as wide.
+const WIDE_TIE: usize = 5;
+
+/// A line of the table: what is counted, how often it came up, and the least
+/// that a full run must reach.
+#[derive(Clone)]
+pub struct Line {
+    what: String,
+    count: usize,
+    least: usize,
+}
+
+pub fn line(what: &str, count: usize, least: usize) -> Line {
+    Line { what: what.into(), count, least }
+}
+
+/// What is counted of answered files that are broad.
+#[derive(Default)]
+struct Broad {
+    answered: usize,
+    at_the_limits: usize,
+    with_opening: usize,
+    with_sealed_view: usize,
+    with_shared_key: usize,
+    contested_steps: usize,
+}
+
+/// What is counted of tiny files whose every plan is tried.
+#[derive(Default)]
+struct Tiny {
+    files: usize,
+    raw: usize,
+    choices: usize,
+    plans: usize,
+    runs: usize,
+}
 
 #[derive(Default)]
 pub struct Coverage {
     refusals: [usize; 16],
     kinds: [usize; 9],
     readable: usize,
-    pub answered: usize,
+    answered: usize,
     pub enumerated: usize,
     pub tied_totals: usize,
+    order_matters: usize,
+    wide_totals: usize,
+    wide_ties: usize,
+    answered_wide_ties: usize,
     without_candidates: usize,
     several_candidates: usize,
-    pub accepted_offers: usize,
-    keys_of_several: usize,
+    accepted_offers: usize,
+    accepted_long_offers: usize,
+    accepted_longest_offers: usize,
+    shared_keys: usize,
+    slips: [usize; slips::NAMES.len()],
     pub clean_runs: usize,
     pub faulty_runs: usize,
-    tiny: usize,
-    tiny_raw: usize,
-    tiny_choices: usize,
-    tiny_plans: usize,
-    tiny_runs: usize,
+    /// Null pointers for file, offer, choice, plan and keys.
+    null: [usize; 5],
+    nowhere: usize,
+    broad: Broad,
+    tiny: Tiny,
+}
+
+fn count(yes: bool) -> usize {
+    usize::from(yes)
 }
 
 impl Coverage {
@@ -39,58 +110,173 @@ impl Coverage {
         }
     }
 
-    pub fn read(&mut self, study: &Study) {
-        self.readable += 1;
-        for (node, candidates) in study.file.nodes.iter().zip(&study.candidates) {
-            self.kinds[usize::from(node.work.kind())] += 1;
-            if !node.work.is_leaf() {
-                self.without_candidates += usize::from(candidates.is_empty());
-                self.several_candidates += usize::from(candidates.len() > 1);
+    /// Where a case has nothing to pass; of a refused file only the file's own
+    /// pointer counts, for the others are not looked at.
+    pub fn pointers(&mut self, case: &Case, readable: bool) {
+        let rooms = [case.rooms.choice, case.rooms.plan, case.rooms.keys];
+        let lengths = [case.file.len(), case.offer.len(), rooms[0], rooms[1], rooms[2]];
+        for (place, &length) in lengths.iter().enumerate() {
+            if length == 0 && (readable || place == 0) {
+                self.null[place] += count(case.bare == 0);
+                self.nowhere += count(case.bare != 0);
             }
         }
     }
 
+    pub fn read(&mut self, study: &Study) {
+        self.readable += 1;
+        self.wide_ties += count(study.widest_tie() >= WIDE_TIE);
+        for (slip, shown) in self.slips.iter_mut().zip(slips::shown(study)) {
+            *slip += count(shown);
+        }
+        for (node, candidates) in study.file.nodes.iter().zip(&study.candidates) {
+            self.kinds[usize::from(node.work.kind())] += 1;
+            if !node.work.is_leaf() {
+                self.without_candidates += count(candidates.is_empty());
+                self.several_candidates += count(candidates.len() > 1);
+            }
+        }
+    }
+
+    /// An answered cheapest choice, and whether the other order of comparing
+    /// equals would give another.
+    pub fn answered(&mut self, study: &Study, answer: &Answer, order_matters: bool) {
+        self.answered += 1;
+        self.order_matters += count(order_matters);
+        self.wide_totals += count(answer.total > u32::MAX.into());
+        self.answered_wide_ties += count(study.widest_tie() >= WIDE_TIE);
+        let (nodes, subjects) = (study.file.nodes.len(), study.file.subjects);
+        if nodes < BROAD_NODES || subjects < BROAD_SUBJECTS {
+            return;
+        }
+        let contested = |list: &&Vec<usize>| !list.is_empty() && list.len() < subjects;
+        self.broad.answered += 1;
+        self.broad.at_the_limits += count(nodes == MOST_NODES && subjects == MOST_SUBJECTS);
+        self.broad.with_opening += count(study.plan.opens.iter().any(|opens| !opens.is_empty()));
+        self.broad.with_sealed_view += count(study.meets_sealed(&answer.choice));
+        self.broad.with_shared_key += count(answer.keys.iter().any(shared));
+        self.broad.contested_steps += study.candidates.iter().filter(contested).count();
+    }
+
+    pub fn accepted(&mut self, study: &Study) {
+        self.accepted_offers += 1;
+        self.accepted_long_offers += count(study.file.nodes.len() >= LONG_NODES);
+        self.accepted_longest_offers += count(study.file.nodes.len() == MOST_NODES);
+    }
+
     pub fn keys(&mut self, keys: &[Key]) {
-        self.keys_of_several += keys.iter().filter(|key| key.attributes.len() > 1).count();
+        self.shared_keys += keys.iter().filter(|key| shared(key)).count();
     }
 
     pub fn tried(&mut self, tried: &Tried) {
-        self.tiny += 1;
-        self.tiny_raw += usize::from(tried.raw);
-        self.tiny_choices += tried.choices;
-        self.tiny_plans += tried.plans;
-        self.tiny_runs += tried.runs;
+        self.tiny.files += 1;
+        self.tiny.raw += count(tried.raw);
+        self.tiny.choices += tried.choices;
+        self.tiny.plans += tried.plans;
+        self.tiny.runs += tried.runs;
     }
 
-    pub fn print(&self) {
-        for number in 1..=15 {
-            println!("refusal {number}: {} cases", self.refusals[number]);
+    pub fn lines(&self) -> Vec<Line> {
+        let numbered = |what: &str, first: usize, counts: &[usize], least: &[usize]| {
+            let pairs = counts.iter().zip(least).enumerate();
+            pairs
+                .map(|(i, (&n, &least))| line(&format!("{what} {}", first + i), n, least))
+                .collect::<Vec<Line>>()
+        };
+        let mut lines = numbered("cases with refusal", 1, &self.refusals[1..], &LEAST_REFUSED);
+        lines.push(line("readable files", self.readable, 59_000));
+        lines.extend(numbered("nodes in readable files of kind", 0, &self.kinds, &LEAST_OF_KIND));
+        lines.extend(self.lines_of_answers());
+        lines.extend(self.lines_of_broad());
+        for ((name, &count), least) in slips::NAMES.iter().zip(&self.slips).zip(LEAST_SHOWN) {
+            lines.push(line(&format!("files that would show {name}"), count, least));
         }
-        println!("readable files: {}", self.readable);
-        for (kind, count) in self.kinds.iter().enumerate() {
-            println!("nodes of kind {kind} in readable files: {count}");
-        }
-        println!("steps without a candidate: {}", self.without_candidates);
-        println!("steps with several candidates: {}", self.several_candidates);
-        println!("cheapest choices answered: {}", self.answered);
-        println!("choices found by enumeration and by recursion: {}", self.enumerated);
-        println!("files with more than one cheapest choice: {}", self.tied_totals);
-        println!("offers accepted: {}", self.accepted_offers);
-        println!("keys of several attributes: {}", self.keys_of_several);
-        println!("built plans run clean: {}", self.clean_runs);
-        println!("built plans of wrong choices run, none clean: {}", self.faulty_runs);
-        println!(
-            "tiny files with every plan tried: {} ({} of them even with sets out of place)",
-            self.tiny, self.tiny_raw
-        );
-        println!(
-            "in these, choices: {}, plans: {}, runs: {}",
-            self.tiny_choices, self.tiny_plans, self.tiny_runs
-        );
+        lines.extend(self.lines_of_pointers());
+        lines.extend(self.lines_of_runs());
+        lines
     }
 
-    pub fn too_thin(&self) -> Option<String> {
-        let thin = (1..=15).find(|&number| self.refusals[number] < LEAST)?;
-        Some(format!("refusal {thin} came up in fewer than {LEAST} cases: run more cases"))
+    fn lines_of_answers(&self) -> [Line; 13] {
+        [
+            line("steps without a candidate", self.without_candidates, 13_000),
+            line("steps with several candidates", self.several_candidates, 170_000),
+            line("files with a root tied set of 5 or more", self.wide_ties, 1_400),
+            line("cheapest answered", self.answered, 33_000),
+            line(
+                "cheapest answered, another if compared from the first node",
+                self.order_matters,
+                1_050,
+            ),
+            line("cheapest answered, total beyond 32 bits", self.wide_totals, 15),
+            line("cheapest answered, a root tied set of 5 or more", self.answered_wide_ties, 750),
+            line("cheapest found by enumeration and by recursion", self.enumerated, 51_000),
+            line("cheapest so found, several of the least total", self.tied_totals, 11_000),
+            line("offers accepted", self.accepted_offers, 31_000),
+            line("offers accepted, 20 nodes or more", self.accepted_long_offers, 1_200),
+            line("offers accepted, 64 nodes", self.accepted_longest_offers, 10),
+            line("keys of several attributes", self.shared_keys, 27_000),
+        ]
     }
+
+    fn lines_of_broad(&self) -> [Line; 6] {
+        let broad = &self.broad;
+        [
+            line("broad (40 nodes and 10 subjects or more) answered", broad.answered, 550),
+            line("broad answered, 64 nodes and 16 subjects", broad.at_the_limits, 10),
+            line("broad answered, something opened", broad.with_opening, 390),
+            line(
+                "broad answered, a chosen subject that sees sealed alone",
+                broad.with_sealed_view,
+                310,
+            ),
+            line("broad answered, a key of several attributes", broad.with_shared_key, 490),
+            line(
+                "steps in broad answered, for some subjects but not all",
+                broad.contested_steps,
+                21_000,
+            ),
+        ]
+    }
+
+    fn lines_of_pointers(&self) -> [Line; 6] {
+        let [file, offer, choice, plan, keys] = self.null;
+        [
+            line("null pointers with length 0 for the file", file, 45),
+            line("null pointers with length 0 for the offer", offer, 670),
+            line("null pointers with length 0 for the choice", choice, 1_000),
+            line("null pointers with length 0 for the plan", plan, 770),
+            line("null pointers with length 0 for the keys", keys, 800),
+            line("other pointers to nowhere with length 0", self.nowhere, 3_600),
+        ]
+    }
+
+    fn lines_of_runs(&self) -> [Line; 7] {
+        let tiny = &self.tiny;
+        [
+            line("built plans run clean", self.clean_runs, 64_000),
+            line("built plans of wrong choices run, none clean", self.faulty_runs, 3_500),
+            line("tiny files with every plan tried", tiny.files, 10_000),
+            line("tiny files so tried, even with sets out of place", tiny.raw, 5_900),
+            line("choices in tiny files so tried", tiny.choices, 61_000),
+            line("plans in tiny files so tried", tiny.plans, 10_000_000),
+            line("runs in tiny files so tried", tiny.runs, 10_000_000),
+        ]
+    }
+}
+
+/// Prints the table; where the floors are asked, fails with the lines below
+/// theirs.
+pub fn told(lines: &[Line], floors: bool) -> Result<(), String> {
+    let mut thin = String::new();
+    for Line { what, count, least } in lines {
+        println!("{what}: {count} (at least {least})");
+        if floors && count < least {
+            thin += &format!("{what}: {count}, fewer than {least}\n");
+        }
+    }
+    if thin.is_empty() { Ok(()) } else { Err(thin) }
+}
+
+fn shared(key: &Key) -> bool {
+    key.attributes.len() > 1
 }

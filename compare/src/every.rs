@@ -79,13 +79,17 @@ fn for_sensible_plans(file: &File, each: &mut dyn FnMut(&Plan) -> bool) -> bool 
     Walk { file, plan, left: vec![], each }.go_on()
 }
 
+fn raw_bits(file: &File) -> usize {
+    2 * file.attributes * file.nodes.len()
+}
+
 /// Every assignment of attributes to the openings and sealings of all nodes.
 fn for_raw_plans(file: &File, each: &mut dyn FnMut(&Plan) -> bool) -> bool {
     let (nodes, attributes) = (file.nodes.len(), file.attributes);
     let part = |pattern: u64, index: usize| {
         Flags::from_bits(pattern >> (index * attributes)).and(&Flags::below(attributes))
     };
-    (0..1u64 << (2 * attributes * nodes)).all(|pattern| {
+    (0..1u64 << raw_bits(file)).all(|pattern| {
         each(&Plan {
             opens: (0..nodes).map(|node| part(pattern, node)).collect(),
             seals: (0..nodes).map(|node| part(pattern, nodes + node)).collect(),
@@ -118,28 +122,36 @@ fn every_choice(study: &Study) -> Option<Vec<Tally>> {
     Some(out)
 }
 
+/// How many plans there are to try, if no more than `most`.
+fn plans_within(file: &File, raw: bool, most: usize) -> Option<usize> {
+    if raw {
+        return Some(1 << raw_bits(file)).filter(|&plans| plans <= most);
+    }
+    let mut plans = 0;
+    for_sensible_plans(file, &mut |_| {
+        plans += 1;
+        plans <= most
+    })
+    .then_some(plans)
+}
+
 /// For every choice with owners at the leaves: some plan runs clean exactly
 /// when each chosen subject is a candidate. `None` where there are too many.
 pub fn try_every(study: &Study) -> Result<Option<Tried>, String> {
     let file = &study.file;
     let Some(mut tallies) = every_choice(study) else { return Ok(None) };
-    let raw = 2 * file.attributes * file.nodes.len() <= RAW_BITS;
+    let raw = raw_bits(file) <= RAW_BITS;
+    let Some(plans) = plans_within(file, raw, MOST_RUNS / tallies.len()) else { return Ok(None) };
+    let mut tried = Tried { raw, choices: tallies.len(), plans, runs: 0 };
     let walk = if raw { for_raw_plans } else { for_sensible_plans };
-    let most = MOST_RUNS / tallies.len();
-    let mut tried = Tried { raw, choices: tallies.len(), plans: 0, runs: 0 };
-    let few = walk(file, &mut |_| {
-        tried.plans += 1;
-        tried.plans <= most
-    });
-    if !few {
-        return Ok(None);
-    }
     walk(file, &mut |plan| {
+        let mut waiting = false;
         for tally in tallies.iter_mut().filter(|tally| !tally.clean) {
             tried.runs += 1;
             tally.clean = run(file, &study.views, &tally.choice, plan).is_ok();
+            waiting |= !tally.clean;
         }
-        true
+        waiting
     });
     let wrong = |tally: &&Tally| tally.clean != study.wronged(&tally.choice).is_none();
     match tallies.iter().find(wrong) {

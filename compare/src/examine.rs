@@ -16,6 +16,7 @@ pub fn examine(
     study: &Result<Study, Refusal>,
     coverage: &mut Coverage,
 ) -> Result<(), String> {
+    coverage.pointers(case, study.is_ok());
     let study = match study {
         Ok(study) => study,
         Err(refusal) => {
@@ -30,8 +31,13 @@ pub fn examine(
     two_ways(study, coverage)?;
     let cheapest = study.cheapest(&case.rooms);
     let offered = study.offered(&case.offer, &case.rooms);
-    coverage.answered += usize::from(cheapest.is_ok());
-    coverage.accepted_offers += usize::from(offered.is_ok());
+    if let (Ok(answer), Ok(options)) = (&cheapest, study.full_options()) {
+        let other = choice::compared_from_first(&study.file, &options);
+        coverage.answered(study, answer, other != answer.choice);
+    }
+    if offered.is_ok() {
+        coverage.accepted(study);
+    }
     let refusals: Vec<Refusal> =
         [&cheapest, &offered].into_iter().filter_map(|r| r.as_ref().err().copied()).collect();
     coverage.refused(&refusals);

@@ -6,6 +6,8 @@ pub const HEADER: usize = 15;
 pub const RELATION: usize = 9;
 pub const GRANT: usize = 18;
 pub const NODE: usize = 28;
+/// How long a file can be, every count at its limit.
+pub const LONGEST: usize = 11_967;
 pub const ANY: u8 = 255;
 pub const UNUSED: u8 = 255;
 pub const MOST_SIZE: u64 = 1_000_000;

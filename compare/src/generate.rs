@@ -5,8 +5,10 @@ use crate::damage::{Patch, patches};
 use crate::file::File;
 use crate::planner::{Rooms, Study, study};
 use crate::rng::Rng;
+use crate::served::serve;
 use crate::valid::{self, Size};
 
+#[derive(Clone)]
 pub struct Case {
     pub family: &'static str,
     pub file: Vec<u8>,
@@ -14,6 +16,10 @@ pub struct Case {
     pub rooms: Rooms,
     /// What every byte of the rooms holds before a call.
     pub fill: u8,
+    /// The nodes whose candidates are asked.
+    pub asked: Vec<usize>,
+    /// The address that is passed where a length is 0.
+    pub bare: usize,
 }
 
 /// One in so many cases, after which the families come round again.
@@ -21,6 +27,20 @@ const ROUND: usize = 50;
 /// How many cases in a row damage the same file: more than it has faults.
 const FAULT_SPAN: usize = 500;
 const CUT_SPAN: usize = 500;
+/// Up to so many nodes, the candidates of all are asked; of more, of so many:
+/// for each node the library works out all tables below it anew.
+const ALL_ASKED: usize = 24;
+const SOME_ASKED: usize = 8;
+/// Of a hundred large files, so many of each size. Most are served, so that
+/// they are answered; the sizes are those that the library plans quickly.
+const LARGE: [(usize, &str, Size, bool); 6] = [
+    (62, "broad", Size::Broad, true),
+    (26, "middle", Size::Middle, true),
+    (4, "large served", Size::Large, true),
+    (4, "large", Size::Large, false),
+    (2, "longest served", Size::Longest, true),
+    (2, "longest", Size::Longest, false),
+];
 /// The longest file that the program `answers` takes.
 pub const LONGEST_TAKEN: usize = 12_288;
 pub const LONGEST_OFFER: usize = 255;
@@ -29,56 +49,77 @@ pub fn case(seed: u64, index: usize, large_every: usize) -> Case {
     let mut rng = Rng::new(seed, index as u64);
     let (round, slot) = (index / ROUND, index % ROUND);
     if index % large_every == large_every - 1 {
-        let size = if rng.percent(12) { Size::Longest } else { Size::Large };
-        return valid_case(&mut rng, "large", size);
+        return large(&mut rng);
     }
     match slot {
-        0..=15 => valid_case(&mut rng, "small", Size::Small),
-        16..=21 => valid_case(&mut rng, "tiny", Size::Tiny),
-        22..=24 => valid_case(&mut rng, "medium", Size::Medium),
-        25..=27 => valid_case(&mut rng, "deep", Size::Deep),
+        0..=13 => valid_case(&mut rng, "small", Size::Small, false),
+        14..=15 => valid_case(&mut rng, "even", Size::Even, true),
+        16..=21 => valid_case(&mut rng, "tiny", Size::Tiny, false),
+        22..=24 => valid_case(&mut rng, "medium", Size::Medium, false),
+        25..=27 => valid_case(&mut rng, "deep", Size::Deep, false),
         28..=35 => {
             let file = one_fault(seed, round * 8 + slot - 28, &mut rng);
-            finish(&mut rng, "one fault", file)
+            finish(&mut rng, "one fault", file, false)
         }
         36..=41 => {
             let size = rng.pick(&[Size::Tiny, Size::Small, Size::Deep, Size::Medium]);
             let base = valid::file(&mut rng, size, false);
             let faults = rng.pick(&[1, 1, 1, 2, 2, 3]);
             let file = with_faults(&mut rng, &base, faults);
-            finish(&mut rng, "faults", file)
+            finish(&mut rng, "faults", file, false)
         }
         42..=43 => {
             let file = cut(seed, round * 2 + slot - 42, &mut rng);
-            finish(&mut rng, "cut", file)
+            finish(&mut rng, "cut", file, false)
         }
         44..=46 => {
             let file = noise(&mut rng);
-            finish(&mut rng, "noise", file)
+            finish(&mut rng, "noise", file, false)
         }
         _ => {
             let base = valid::file(&mut rng, Size::Small, true);
             let faults = usize::from(rng.percent(30));
             let file = with_faults(&mut rng, &base, faults);
-            finish(&mut rng, "torn", file)
+            finish(&mut rng, "torn", file, false)
         }
     }
 }
 
-/// A valid file with the steps it allows at the edge or away from it.
-fn valid_case(rng: &mut Rng, family: &'static str, size: Size) -> Case {
+fn large(rng: &mut Rng) -> Case {
+    let mut turn = rng.below(100);
+    for (share, family, size, served) in LARGE {
+        if turn < share {
+            return valid_case(rng, family, size, served);
+        }
+        turn -= share;
+    }
+    unreachable!("the shares make up a hundred")
+}
+
+/// A valid file with the steps it allows at the edge or away from it. One that
+/// is served mostly has all else fit too, so that it is answered.
+fn valid_case(rng: &mut Rng, family: &'static str, size: Size, served: bool) -> Case {
     let mut file = valid::file(rng, size, false);
+    if served {
+        serve(rng, &mut file);
+    }
+    let fits = served && rng.percent(90);
     if let Ok(study) = study(&file.write()) {
         let steps = study.steps() as u32;
-        file.allowed = match rng.below(10) {
+        file.allowed = match mode(rng, 7, fits) {
             0..=3 => steps,
-            4 | 5 => steps.saturating_sub(1),
-            6 => rng.below(steps as usize + 1) as u32,
-            7 => steps + rng.below(100) as u32,
-            _ => u32::MAX,
+            4 => steps + rng.below(100) as u32,
+            5 | 6 => u32::MAX,
+            7 | 8 => steps.saturating_sub(1),
+            _ => rng.below(steps as usize + 1) as u32,
         };
     }
-    finish(rng, family, file.write())
+    finish(rng, family, file.write(), fits)
+}
+
+/// One of ten ways to draw something, of which the first `right` fit.
+fn mode(rng: &mut Rng, right: usize, fits: bool) -> usize {
+    rng.below(if fits { right } else { 10 })
 }
 
 /// A base for damage done in order: the same for all cases of a span.
@@ -135,7 +176,8 @@ fn cut(seed: u64, position: usize, rng: &mut Rng) -> Vec<u8> {
 fn noise(rng: &mut Rng) -> Vec<u8> {
     let length = match rng.below(10) {
         0 => rng.within(0, LONGEST_TAKEN),
-        1..=3 => rng.within(0, 16),
+        1 => rng.within(0, 2),
+        2 | 3 => rng.within(0, 16),
         _ => rng.within(0, 300),
     };
     let mut bytes = rng.bytes(length);
@@ -157,21 +199,34 @@ fn noise(rng: &mut Rng) -> Vec<u8> {
     bytes
 }
 
-fn finish(rng: &mut Rng, family: &'static str, file: Vec<u8>) -> Case {
+fn finish(rng: &mut Rng, family: &'static str, file: Vec<u8>, fits: bool) -> Case {
     let study = study(&file).ok();
     let offer = match &study {
-        Some(study) => offer(rng, study),
+        Some(study) => offer(rng, study, fits),
         None => {
             let length = rng.pick(&[0, 1, 5, 64, LONGEST_OFFER]);
             rng.bytes(length)
         }
     };
-    let rooms = rooms(rng, study.as_ref());
+    let rooms = rooms(rng, study.as_ref(), fits);
     let fill = if rng.percent(50) { 165 } else { rng.next() as u8 };
-    Case { family, file, offer, rooms, fill }
+    let asked = asked(rng, study.map_or(1, |study| study.file.nodes.len()));
+    let bare = rng.pick(&[0, 0, 1, usize::MAX]);
+    Case { family, file, offer, rooms, fill, asked, bare }
 }
 
-fn offer(rng: &mut Rng, study: &Study) -> Vec<u8> {
+/// Nodes of the file, the number after the last, and one far past it.
+fn asked(rng: &mut Rng, count: usize) -> Vec<usize> {
+    let mut nodes: Vec<usize> = (0..count).collect();
+    if count > ALL_ASKED {
+        rng.shuffle(&mut nodes);
+        nodes.truncate(SOME_ASKED);
+    }
+    nodes.extend([count, rng.pick(&[count + 1, 255, 1 << 32, usize::MAX])]);
+    nodes
+}
+
+fn offer(rng: &mut Rng, study: &Study, fits: bool) -> Vec<u8> {
     let file = &study.file;
     let nodes = file.nodes.len();
     let mut right = |node: usize| match (file.owner_at(node), &study.candidates[node][..]) {
@@ -182,7 +237,7 @@ fn offer(rng: &mut Rng, study: &Study) -> Vec<u8> {
     let mut offer: Vec<u8> = (0..nodes).map(&mut right).collect();
     let past = rng.pick(&[255, file.subjects as u8, 64]);
     let wrong = if rng.percent(70) { rng.below(file.subjects) as u8 } else { past };
-    match rng.below(10) {
+    match mode(rng, 5, fits) {
         0..=4 => {}
         5 | 6 => offer[rng.below(nodes)] = wrong,
         7 => {
@@ -198,21 +253,20 @@ fn offer(rng: &mut Rng, study: &Study) -> Vec<u8> {
     offer
 }
 
-fn rooms(rng: &mut Rng, study: Option<&Study>) -> Rooms {
+fn rooms(rng: &mut Rng, study: Option<&Study>, fits: bool) -> Rooms {
     let Some(study) = study else {
         let [choice, plan, keys] = [64, 128, 128].map(|widest| rng.within(0, widest));
         return Rooms { choice, plan, keys };
     };
     let nodes = study.file.nodes.len();
     let mut lengths = [nodes, 2 * nodes, 2 * study.file.attributes];
-    let mode = rng.below(10);
     let one = rng.below(3);
-    match mode {
+    match mode(rng, 7, fits) {
         0..=4 => {}
-        5 => lengths[one] -= 1,
-        6 => lengths[one] = 0,
-        7 => lengths = lengths.map(|length| length + rng.within(1, 9)),
-        8 => lengths[one] += rng.within(1, 9),
+        5 => lengths = lengths.map(|length| length + rng.within(1, 9)),
+        6 => lengths[one] += rng.within(1, 9),
+        7 => lengths[one] -= 1,
+        8 => lengths[one] = 0,
         _ => lengths = lengths.map(|length| length + rng.below(3) - 1),
     }
     Rooms { choice: lengths[0], plan: lengths[1], keys: lengths[2] }

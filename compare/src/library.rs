@@ -2,6 +2,7 @@
 //! pointers, and the record of all of them for one case.
 
 use crate::generate::Case;
+use crate::planner::Rooms;
 use crate::record::{Outcome, Record};
 
 unsafe extern "C" {
@@ -34,34 +35,51 @@ unsafe extern "C" {
     ) -> u64;
 }
 
-fn grants(file: &[u8], untouched: u64) -> [u64; 3] {
+/// Where what is lent lies; where nothing is, the case's bare address.
+fn at<T>(case: &Case, lent: usize, start: *const T) -> *const T {
+    if lent == 0 { std::ptr::without_provenance(case.bare) } else { start }
+}
+
+fn room<T>(case: &Case, lent: usize, room: &mut [T]) -> *mut T {
+    at(case, lent, room.as_mut_ptr()).cast_mut()
+}
+
+/// A file or an offer as it is passed: its address and its length.
+fn passed(case: &Case, bytes: &[u8]) -> (*const u8, usize) {
+    (at(case, bytes.len(), bytes.as_ptr()), bytes.len())
+}
+
+fn grants(case: &Case, untouched: u64) -> [u64; 3] {
+    let (file, n) = passed(case, &case.file);
     let (mut from, mut length) = (untouched, untouched);
     // SAFETY: a slice with its length, and two numbers of our own.
-    let code =
-        unsafe { tollburrow_grant_records(file.as_ptr(), file.len(), &mut from, &mut length) };
+    let code = unsafe { tollburrow_grant_records(file, n, &mut from, &mut length) };
     [code, from, length]
 }
 
-fn candidates(file: &[u8], node: usize, untouched: u16) -> (u64, u16) {
+fn candidates(case: &Case, node: usize, untouched: u16) -> (u64, u16) {
+    let (file, n) = passed(case, &case.file);
     let mut set = untouched;
     // SAFETY: a slice with its length, and a number of our own.
-    let code = unsafe { tollburrow_candidates(file.as_ptr(), file.len(), node, &mut set) };
+    let code = unsafe { tollburrow_candidates(file, n, node, &mut set) };
     (code, set)
 }
 
 fn cheapest(case: &Case) -> Outcome {
     let mut out = Outcome::untouched(&case.rooms, case.fill);
+    let (file, n) = passed(case, &case.file);
+    let Rooms { choice, plan, keys } = case.rooms;
     // SAFETY: each room is longer than the length that is lent of it.
     out.code = unsafe {
         tollburrow_cheapest(
-            case.file.as_ptr(),
-            case.file.len(),
-            out.choice.as_mut_ptr(),
-            case.rooms.choice,
-            out.plan.as_mut_ptr(),
-            case.rooms.plan,
-            out.keys.as_mut_ptr(),
-            case.rooms.keys,
+            file,
+            n,
+            room(case, choice, &mut out.choice),
+            choice,
+            room(case, plan, &mut out.plan),
+            plan,
+            room(case, keys, &mut out.keys),
+            keys,
             &mut out.total,
             &mut out.steps,
         )
@@ -71,31 +89,35 @@ fn cheapest(case: &Case) -> Outcome {
 
 fn offered(case: &Case) -> Outcome {
     let mut out = Outcome::untouched(&case.rooms, case.fill);
+    let (file, n) = passed(case, &case.file);
+    let (offer, o) = passed(case, &case.offer);
+    let Rooms { plan, keys, .. } = case.rooms;
     // SAFETY: each room is longer than the length that is lent of it.
     out.code = unsafe {
         tollburrow_offered(
-            case.file.as_ptr(),
-            case.file.len(),
-            case.offer.as_ptr(),
-            case.offer.len(),
-            out.plan.as_mut_ptr(),
-            case.rooms.plan,
-            out.keys.as_mut_ptr(),
-            case.rooms.keys,
+            file,
+            n,
+            offer,
+            o,
+            room(case, plan, &mut out.plan),
+            plan,
+            room(case, keys, &mut out.keys),
+            keys,
             &mut out.total,
         )
     };
     out
 }
 
-pub fn record(case: &Case, asked: &[usize]) -> Record {
+pub fn record(case: &Case) -> Record {
     let untouched = u64::from_ne_bytes([case.fill; 8]);
-    let file = &case.file;
+    let (file, n) = passed(case, &case.file);
+    let of_node = |&node: &usize| candidates(case, node, untouched as u16);
     Record {
         // SAFETY: a slice with its length.
-        check: unsafe { tollburrow_check(file.as_ptr(), file.len()) },
-        grants: grants(file, untouched),
-        candidates: asked.iter().map(|&node| candidates(file, node, untouched as u16)).collect(),
+        check: unsafe { tollburrow_check(file, n) },
+        grants: grants(case, untouched),
+        candidates: case.asked.iter().map(of_node).collect(),
         cheapest: cheapest(case),
         offered: offered(case),
     }

@@ -12,11 +12,15 @@ mod generate;
 mod library;
 mod night;
 mod planner;
+mod plans;
+mod program;
 mod reading;
 mod record;
 mod rng;
 mod run;
+mod served;
 mod sets;
+mod slips;
 mod text;
 mod valid;
 mod views;
@@ -24,13 +28,13 @@ mod views;
 use std::process::ExitCode;
 use std::time::{Duration, Instant};
 
-use coverage::Coverage;
+use coverage::{Coverage, Line, line};
 use generate::Case;
 use record::Record;
 use rng::Rng;
 
 /// The linked library's record of a case.
-type Linked = fn(&Case, &[usize]) -> Record;
+type Linked = fn(&Case) -> Record;
 #[cfg(feature = "library")]
 const LINKED: Option<Linked> = Some(library::record);
 #[cfg(not(feature = "library"))]
@@ -42,17 +46,19 @@ struct Options {
     large_every: usize,
     lines: usize,
     answers: Option<String>,
+    plan: Option<String>,
     night: Option<String>,
     alone: bool,
 }
 
 fn options() -> Result<Options, String> {
     let mut options = Options {
-        cases: 100_000,
+        cases: coverage::FULL,
         seed: 1,
-        large_every: 50,
+        large_every: coverage::FULL_LARGE,
         lines: 1_000,
         answers: None,
+        plan: None,
         night: None,
         alone: false,
     };
@@ -63,6 +69,7 @@ fn options() -> Result<Options, String> {
         match &word[..] {
             "--alone" => options.alone = true,
             "--answers" => options.answers = Some(value()?),
+            "--plan" => options.plan = Some(value()?),
             "--night" => options.night = Some(value()?),
             "--cases" => options.cases = number(value()?)? as usize,
             "--seed" => options.seed = number(value()?)?,
@@ -83,9 +90,10 @@ fn hex(bytes: &[u8]) -> String {
 
 /// All it takes to make the case again, or to send it by hand.
 fn label(options: &Options, index: usize, case: &Case) -> String {
-    let Case { family, file, offer, rooms, fill } = case;
+    let Case { family, file, offer, rooms, fill, asked, bare } = case;
     format!(
-        "seed {} case {index} large {} ({family})\nfile {}\noffer {}\n{rooms:?} fill {fill}",
+        "seed {} case {index} large {} ({family})\nfile {}\noffer {}\n{rooms:?} fill {fill} \
+        asked {asked:?} bare {bare}",
         options.seed,
         options.large_every,
         hex(file),
@@ -105,6 +113,7 @@ struct Runner {
     options: Options,
     coverage: Coverage,
     stream: answers::Stream,
+    plans: plans::Plans,
     in_library: Duration,
 }
 
@@ -116,10 +125,9 @@ impl Runner {
         examine::examine(&case, &study, &mut self.coverage)
             .map_err(|text| format!("{}\n{text}", label()))?;
         if let Some(linked) = LINKED.filter(|_| !self.options.alone) {
-            let asked = record::asked(&study, &case);
-            let expected = record::expected(&study, &case, &asked);
+            let expected = record::expected(&study, &case);
             let start = Instant::now();
-            let given = linked(&case, &asked);
+            let given = linked(&case);
             self.in_library += start.elapsed();
             if given != expected {
                 return Err(format!("{}\nexpected {expected:?}\ngiven    {given:?}", label()));
@@ -128,18 +136,32 @@ impl Runner {
         if send {
             self.stream.add(label(), &case, &study);
         }
+        if let Some(command) = &self.options.plan
+            && self.plans.takes(index, self.options.cases, &study)
+        {
+            plans::compare(command, &case.file, &study)
+                .map_err(|text| format!("{}\n{text}", label()))?;
+        }
         Ok(())
     }
 
-    fn lines(&self) -> Result<(), String> {
-        let Some(command) = &self.options.answers else { return Ok(()) };
-        self.stream.compare_all(command)?;
-        let readable = (0..).map(|index| generate::case(self.options.seed, index, usize::MAX));
-        let whole = |case: &Case| planner::study(&case.file).is_ok() && !case.offer.is_empty();
-        let case = readable.into_iter().find(whole).expect("most small cases are readable");
-        answers::compare_cuts(command, &case)?;
-        println!("cases compared line by line: {}", self.stream.len());
-        Ok(())
+    /// The table's lines on the programs, once all cases are through them.
+    fn programs(&self) -> Result<Vec<Line>, String> {
+        let mut lines = Vec::new();
+        if let Some(command) = &self.options.answers {
+            self.stream.compare_all(command)?;
+            let readable = (0..).map(|index| generate::case(self.options.seed, index, usize::MAX));
+            let whole = |case: &Case| planner::study(&case.file).is_ok() && !case.offer.is_empty();
+            let case = readable.into_iter().find(whole).expect("most small cases are readable");
+            answers::compare_cuts(command, &case)?;
+            let wanted = self.options.lines.min(self.options.cases);
+            lines.push(line("cases through answers", self.stream.len(), wanted));
+        }
+        if let Some(command) = &self.options.plan {
+            plans::compare_lengths(command, self.options.seed)?;
+            lines.extend(self.plans.lines());
+        }
+        Ok(lines)
     }
 
     fn all(&mut self) -> Result<(), String> {
@@ -153,18 +175,19 @@ impl Runner {
             self.case(index, send)?;
         }
         let (whole, library) = (start.elapsed().as_secs_f64(), self.in_library.as_secs_f64());
-        self.lines()?;
+        let lines = [self.coverage.lines(), self.programs()?].concat();
         println!("cases: {}, seed {}", self.options.cases, self.options.seed);
         println!("seconds: {whole:.1}, of these in the library {library:.1}");
-        self.coverage.print();
-        self.coverage.too_thin().map_or(Ok(()), Err)
+        let Options { cases, large_every, .. } = self.options;
+        coverage::told(&lines, cases >= coverage::FULL && large_every == coverage::FULL_LARGE)
     }
 }
 
 fn main() -> ExitCode {
     let done = options().and_then(|options| {
         let (coverage, stream) = (Coverage::default(), answers::Stream::default());
-        Runner { options, coverage, stream, in_library: Duration::ZERO }.all()
+        let (plans, in_library) = (plans::Plans::default(), Duration::ZERO);
+        Runner { options, coverage, stream, plans, in_library }.all()
     });
     match done {
         Ok(()) => {

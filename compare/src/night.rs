@@ -1,6 +1,6 @@
 //! The sample night: its text and its figures as the rules print them.
 
-use crate::planner::{Rooms, study};
+use crate::planner::study;
 use crate::text;
 
 const TEXT: &str = "\
@@ -17,10 +17,8 @@ key 3 attributes 3 holders 0
 key 5 attributes 5 holders 1,4
 ";
 
-const ROOMS: Rooms = Rooms { choice: 64, plan: 128, keys: 128 };
-
 fn expect(what: &str, bytes: &[u8], text: &str) -> Result<(), String> {
-    let printed = text::cheapest(&study(bytes), &ROOMS);
+    let printed = text::cheapest(&study(bytes), &text::WIDEST);
     if printed == text {
         return Ok(());
     }

@@ -2,7 +2,7 @@
 //! the two planning calls.
 
 use crate::choice::{self, Options};
-use crate::file::File;
+use crate::file::{File, Work};
 use crate::reading::{Refusal, read, refuse};
 use crate::sets::{Flags, Ties};
 use crate::views::{Profile, View, may_have, of_subject};
@@ -48,21 +48,32 @@ pub struct Rooms {
 pub fn study(bytes: &[u8]) -> Result<Study, Refusal> {
     let file = read(bytes)?;
     let views: Vec<View> = (0..file.subjects).map(|subject| of_subject(&file, subject)).collect();
+    let (candidates, root) = candidates(&file, &views, |_| {});
+    let plan = plan(&file);
+    Ok(Study { file, views, candidates, plan, root_ties: root.ties })
+}
+
+/// Each node's candidates, over tables worked out upwards, and the root's table.
+/// The rules alter no table once it is worked out; `alter` is for those who do.
+pub fn candidates(
+    file: &File,
+    views: &[View],
+    alter: impl Fn(&mut Profile),
+) -> (Vec<Vec<usize>>, Profile) {
     let mut tables: Vec<Profile> = Vec::new();
     let mut candidates = Vec::new();
     for node in &file.nodes {
         let mut asked: Vec<Profile> =
             node.work.children().map(|c| tables[c].with_clear(&node.needed)).collect();
-        let result = Profile::result(&node.work, &asked);
+        let mut result = Profile::result(&node.work, &asked);
+        alter(&mut result);
         asked.push(result.clone());
         let fits = |&subject: &usize| asked.iter().all(|table| may_have(&views[subject], table));
         let steps_alone = if node.work.is_leaf() { 0 } else { file.subjects };
         candidates.push((0..steps_alone).filter(fits).collect());
         tables.push(result);
     }
-    let root_ties = tables.pop().expect("a file has a node").ties;
-    let plan = plan(&file);
-    Ok(Study { file, views, candidates, plan, root_ties })
+    (candidates, tables.pop().expect("a file has a node"))
 }
 
 /// Openings and sealings: the same for every choice.
@@ -130,6 +141,22 @@ impl Study {
         (0..choice.len()).find(|&node| !options[node].contains(&choice[node]))
     }
 
+    /// How many attributes the widest of the root's tied sets has.
+    pub fn widest_tie(&self) -> usize {
+        self.root_ties.sets().iter().map(|set| set.list().len()).max().unwrap_or(0)
+    }
+
+    /// Whether some chosen subject sees an attribute of a leaf below its step
+    /// only sealed.
+    pub fn meets_sealed(&self, choice: &[usize]) -> bool {
+        let mut below: Vec<Flags> = Vec::new();
+        for node in &self.file.nodes {
+            let own = if let Work::Leaf { set, .. } = node.work { set } else { Flags::NONE };
+            below.push(node.work.children().fold(own, |sum, child| sum.or(&below[child])));
+        }
+        choice.iter().zip(below).any(|(&subject, set)| self.views[subject].sealed.meets(&set))
+    }
+
     pub fn keys(&self, choice: &[usize]) -> Vec<Key> {
         let Plan { opens, seals } = &self.plan;
         let mut waiting: Vec<usize> = seals.iter().fold(Flags::NONE, |sum, s| sum.or(s)).list();
@@ -166,15 +193,18 @@ impl Study {
         }
     }
 
-    pub fn cheapest(&self, rooms: &Rooms) -> Result<Answer, Refusal> {
+    /// What every node may be given, if the search may take its steps.
+    pub fn searched(&self) -> Result<Options, Refusal> {
         let options = self.full_options()?;
-        let steps = self.steps();
-        if steps > u64::from(self.file.allowed) {
-            return refuse(13, 0);
-        }
+        let suffices = self.steps() <= u64::from(self.file.allowed);
+        if suffices { Ok(options) } else { refuse(13, 0) }
+    }
+
+    pub fn cheapest(&self, rooms: &Rooms) -> Result<Answer, Refusal> {
+        let options = self.searched()?;
         self.room_suffices(rooms)?;
         let best = choice::by_recursion(&self.file, &options);
-        Ok(self.answer(best.choice(), Some(steps)))
+        Ok(self.answer(best.choice(), Some(self.steps())))
     }
 
     pub fn offered(&self, offer: &[u8], rooms: &Rooms) -> Result<Answer, Refusal> {

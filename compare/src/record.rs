@@ -87,15 +87,7 @@ pub fn code(refusal: &Refusal) -> u64 {
     refusal.number << 32 | refusal.place
 }
 
-/// The nodes whose candidates are asked: all, the number after the last, and
-/// one far past it.
-pub fn asked(study: &Result<Study, Refusal>, case: &Case) -> Vec<usize> {
-    let nodes = study.as_ref().map_or(1, |study| study.file.nodes.len());
-    let far = [nodes + 1, 255, 1 << 32, usize::MAX][usize::from(case.fill) % 4];
-    (0..=nodes).chain([far]).collect()
-}
-
-pub fn expected(study: &Result<Study, Refusal>, case: &Case, asked: &[usize]) -> Record {
+pub fn expected(study: &Result<Study, Refusal>, case: &Case) -> Record {
     let untouched = u64::from_ne_bytes([case.fill; 8]);
     let candidates = |&node: &usize| match study {
         Err(refusal) => (code(refusal), untouched as u16),
@@ -114,7 +106,7 @@ pub fn expected(study: &Result<Study, Refusal>, case: &Case, asked: &[usize]) ->
     Record {
         check: study.as_ref().err().map_or(0, code),
         grants,
-        candidates: asked.iter().map(candidates).collect(),
+        candidates: case.asked.iter().map(candidates).collect(),
         cheapest: Outcome::expected(study, case, |study| study.cheapest(&case.rooms)),
         offered: Outcome::expected(study, case, |study| study.offered(&case.offer, &case.rooms)),
     }

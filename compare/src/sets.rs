@@ -39,6 +39,10 @@ impl Flags {
     }
 
     pub fn list(&self) -> Vec<usize> {
+        // Most sets that are asked are empty, and found so at once.
+        if self.is_empty() {
+            return Vec::new();
+        }
         (0..WIDTH).filter(|&i| self.0[i]).collect()
     }
 

@@ -3,8 +3,8 @@
 use crate::planner::{Answer, Rooms, Study};
 use crate::reading::Refusal;
 
-/// Room that the program `answers` lends at most.
-const WIDEST: Rooms = Rooms { choice: 64, plan: 128, keys: 128 };
+/// Room that the program `plan` lends, and `answers` at most.
+pub const WIDEST: Rooms = Rooms { choice: 64, plan: 128, keys: 128 };
 
 fn list(numbers: &[usize]) -> String {
     if numbers.is_empty() {

@@ -11,7 +11,11 @@ pub enum Size {
     Small,
     /// Few attributes in many steps, so that each is tested, tied and dropped.
     Deep,
+    /// Enough subjects and steps for many choices, at prices that make equals.
+    Even,
     Medium,
+    Middle,
+    Broad,
     Large,
     /// Every count at its limit.
     Longest,
@@ -27,19 +31,23 @@ struct Shape {
 }
 
 fn shape(rng: &mut Rng, size: Size) -> Shape {
-    let (subjects, most_relations, most_attributes, most_nodes) = match size {
-        Size::Tiny => (rng.within(1, 3), 2, 3, 5),
-        Size::Small => (rng.within(1, 5), 4, 9, 10),
-        Size::Deep => (rng.within(3, 12), 2, 4, 9),
-        Size::Medium => (rng.within(1, 9), 8, 24, 24),
-        Size::Large => (rng.within(8, 16), 16, 64, 64),
-        Size::Longest => (16, 16, 64, 64),
+    let (subjects, most_relations, most_attributes, nodes) = match size {
+        Size::Tiny => ((1, 3), 2, 3, (1, 5)),
+        Size::Small => ((1, 5), 4, 9, (1, 10)),
+        Size::Deep => ((3, 12), 2, 4, (1, 9)),
+        Size::Even => ((4, 8), 3, 8, (5, 12)),
+        Size::Medium => ((1, 9), 8, 24, (1, 24)),
+        Size::Middle => ((4, 9), 12, 40, (20, 39)),
+        Size::Broad => ((10, 11), 16, 64, (40, 43)),
+        Size::Large => ((8, 16), 16, 64, (24, 64)),
+        Size::Longest => ((16, 16), 16, 64, (64, 64)),
     };
     let longest = matches!(size, Size::Longest);
     let mut up_to = |low: usize, most: usize| if longest { most } else { rng.within(low, most) };
+    let subjects = up_to(subjects.0, subjects.1);
     let relations = up_to(1, most_relations);
     let attributes = up_to(relations, most_attributes);
-    let nodes = up_to(if matches!(size, Size::Large) { 24 } else { 1 }, most_nodes);
+    let nodes = up_to(nodes.0, nodes.1);
     let leaves = up_to(1, relations.min(nodes.div_ceil(2)));
     Shape { subjects, relations, attributes, nodes, leaves }
 }
@@ -81,6 +89,11 @@ const MOODS: [&[Pattern]; 8] = [
     &[Pattern::AllClear, Pattern::AllSealed, Pattern::NothingSeen, Pattern::Split],
 ];
 
+/// In a file of many nodes a subject that draws for each relation anew soon has
+/// no step, so most draw once for all: one of these.
+const STEADY: [Pattern; 4] =
+    [Pattern::AllClear, Pattern::AllSealed, Pattern::FewClear, Pattern::AllButOne];
+
 fn all_but_one(rng: &mut Rng, all: &Flags) -> (Flags, Flags) {
     let one = Flags::of(&[rng.pick(&all.list())]);
     let (rest, other) = (all.minus(&one), if rng.percent(60) { Flags::NONE } else { one });
@@ -114,20 +127,28 @@ fn nonempty_subset(rng: &mut Rng, of: &Flags, chance: usize) -> Flags {
     subset(rng, of, chance).or(&Flags::of(&[sure]))
 }
 
-fn grants(rng: &mut Rng, shape: &Shape, relations: &[Relation], full: bool) -> Vec<Grant> {
+fn grants(rng: &mut Rng, shape: &Shape, relations: &[Relation], size: Size) -> Vec<Grant> {
     let mood = rng.pick(&MOODS);
+    let full = matches!(size, Size::Longest);
+    let chance = match size {
+        Size::Even | Size::Middle | Size::Broad | Size::Large | Size::Longest => 60,
+        Size::Tiny | Size::Small | Size::Deep | Size::Medium => 0,
+    };
+    let steady = |_| if rng.percent(chance) { Some(rng.pick(&STEADY)) } else { None };
+    let steady: Vec<Option<Pattern>> = (0..shape.subjects).map(steady).collect();
     let mut out = Vec::new();
     for (relation, Relation { owner, set }) in relations.iter().enumerate() {
         let own = full || rng.percent(70);
         for subject in (0..shape.subjects).map(Some).chain([None]) {
             // Either the owner's own grant shows it all, or the one to any.
             let fixed = if subject == Some(*owner) { Some(own) } else { None };
-            let pattern = match fixed {
-                Some(true) => Pattern::AllClear,
-                Some(false) => Pattern::NoGrant,
-                None if subject.is_none() && !own => Pattern::AllClear,
-                None if full => Pattern::FewClear,
-                None => rng.pick(mood),
+            let drawn = subject.and_then(|subject| steady[subject]).unwrap_or(rng.pick(mood));
+            let pattern = match (fixed, drawn) {
+                (Some(true), _) => Pattern::AllClear,
+                (Some(false), _) => Pattern::NoGrant,
+                (None, _) if subject.is_none() && !own => Pattern::AllClear,
+                (None, Pattern::NoGrant) if full => Pattern::NothingSeen,
+                (None, drawn) => drawn,
             };
             if let Some((clear, sealed)) = sets(rng, pattern, set) {
                 out.push(Grant { relation, subject, clear, sealed });
@@ -249,8 +270,20 @@ fn price(rng: &mut Rng, mood: usize, most: u64) -> u64 {
     }
 }
 
-fn prices(rng: &mut Rng, file: &mut File) {
-    let moods = [rng.below(8), rng.below(8), rng.below(8)];
+/// The moods of sizes, step prices and link prices. At even prices many choices
+/// have the least total, by ways so different that the order of comparing
+/// tells; at the highest, totals need more than 32 bits.
+fn moods(rng: &mut Rng, even: bool) -> [usize; 3] {
+    match rng.below(10) {
+        _ if even => [rng.pick(&[1, 2, 3]), rng.pick(&[2, 3]), 2],
+        0..=2 => moods(rng, true),
+        3 => [rng.within(5, 6), rng.below(8), rng.within(5, 6)],
+        _ => [rng.below(8), rng.below(8), rng.below(8)],
+    }
+}
+
+fn prices(rng: &mut Rng, file: &mut File, even: bool) {
+    let moods = moods(rng, even);
     for node in &mut file.nodes {
         node.size = price(rng, moods[0], MOST_SIZE);
     }
@@ -270,7 +303,7 @@ fn prices(rng: &mut Rng, file: &mut File) {
 pub fn file(rng: &mut Rng, size: Size, torn: bool) -> File {
     let shape = shape(rng, size);
     let relations = relations(rng, &shape);
-    let grants = grants(rng, &shape, &relations, matches!(size, Size::Longest));
+    let grants = grants(rng, &shape, &relations, size);
     let mut untaken: Vec<usize> = (0..shape.relations).collect();
     rng.shuffle(&mut untaken);
     let trees = if torn { rng.within(1, shape.leaves.min(3)) } else { 1 };
@@ -297,6 +330,6 @@ pub fn file(rng: &mut Rng, size: Size, torn: bool) -> File {
         step_prices: Vec::new(),
         link_prices: Vec::new(),
     };
-    prices(rng, &mut file);
+    prices(rng, &mut file, matches!(size, Size::Even));
     file
 }

@@ -35,8 +35,8 @@ pub fn of_subject(file: &File, subject: usize) -> View {
 pub struct Profile {
     pub visible_clear: Flags,
     pub visible_sealed: Flags,
-    implicit_clear: Flags,
-    implicit_sealed: Flags,
+    pub implicit_clear: Flags,
+    pub implicit_sealed: Flags,
     pub ties: Ties,
 }
 
@@ -60,7 +60,7 @@ impl Profile {
         sum
     }
 
-    fn visible(&self) -> Flags {
+    pub fn visible(&self) -> Flags {
         self.visible_clear.or(&self.visible_sealed)
     }
 

@@ -5,15 +5,12 @@ use planning::CandidateSet;
 use planning::CheapestPlan;
 use planning::OfferedPlan;
 use reading::Checked;
+use reading::Part;
 use show::lines;
 use show::rooms;
-ghost use Prim.Native.Nat.{_≤_};
-ghost use lib.ListN.{length};
 
 // Answers case k, with rooms of n bytes, p and q numbers.
-pub(crate) fn answer(k: u64, file: &[u8], offer: &[u8], n: usize, p: usize, q: usize)
-    requires { ⌜ (n ≤ 64) × (p ≤ 128) × (q ≤ 128) ⌝ }
-{
+pub(crate) fn answer(k: u64, file: &[u8], offer: &[u8], n: usize, p: usize, q: usize) {
     io::write_all(1, b"case ");
     io::print_decimal(1, k);
     lines::end();
@@ -30,17 +27,26 @@ pub(crate) fn answer(k: u64, file: &[u8], offer: &[u8], n: usize, p: usize, q: u
     }
 }
 
-// Where the part of grant records lies.
+// Where the part of grant records lies, or the refusal that stands beside it.
 fn grants(file: &[u8]) {
-    match reading::check(file) {
-        Checked::Accepted(h) => {
-            io::print_decimal(1, places::grants_from(h) as u64);
-            io::write_all(1, b" ");
-            io::print_decimal(1, reading::grant_records(file).len() as u64);
-            lines::end();
-        }
-        Checked::Refused { number, place } => lines::refused(number, place),
+    told(file, reading::grant_records_told(file));
+}
+
+// Takes the struct apart and does no more, since this is walked by hand.
+fn told<'a>(file: &'a [u8], part: Part<'a>) {
+    part_line(file, part.records, part.number, part.place);
+}
+
+// The line of the part; number and place are 0 where the file is accepted.
+fn part_line<'a>(file: &'a [u8], records: &'a [u8], number: u8, place: u32) {
+    if number != 0 {
+        lines::refused(number, place);
+        return;
     }
+    io::print_decimal(1, places::grants_from(values::header(file)) as u64);
+    io::write_all(1, b" ");
+    io::print_decimal(1, records.len() as u64);
+    lines::end();
 }
 
 // A line for each node, or the refusal.
@@ -76,13 +82,16 @@ fn candidates_of(file: &[u8], i: u8) {
 }
 
 // The cheapest plan's lines; whether all that had to stay in the rooms did.
-fn cheapest(file: &[u8], n: usize, p: usize, q: usize) -> bool
-    requires { ⌜ (n ≤ 64) × (p ≤ 128) × (q ≤ 128) ⌝ }
-{
+fn cheapest(file: &[u8], n: usize, p: usize, q: usize) -> bool {
     let mut choice = [rooms::BYTE; 64];
     let mut plan = [rooms::WORD; 128];
     let mut keys = [rooms::WORD; 128];
-    let said = cheapest_in(file, &mut choice, &mut plan, &mut keys, n, p, q);
+    let said = planning::cheapest(
+        file,
+        rooms::bytes_front(&mut choice, n),
+        rooms::words_front(&mut plan, p),
+        rooms::words_front(&mut keys, q),
+    );
     match said {
         CheapestPlan::Cheapest { total, steps } => {
             lines::totals(total, steps);
@@ -90,71 +99,46 @@ fn cheapest(file: &[u8], n: usize, p: usize, q: usize) -> bool
             lines::nodes(&choice, &plan, h.nodes);
             lines::keys(&keys, h.attributes);
             let first = rooms::bytes_kept(&choice, h.nodes as usize);
-            let second = rooms::words_kept(&plan, 2 * (h.nodes as usize));
-            let third = rooms::words_kept(&keys, 2 * (h.attributes as usize));
-            first && second && third
+            let others = kept(&plan, &keys, h.nodes, h.attributes);
+            first && others
         }
         CheapestPlan::Refused { number, place } => {
             lines::refused(number, place);
             let first = rooms::bytes_kept(&choice, 0);
-            let second = rooms::words_kept(&plan, 0);
-            let third = rooms::words_kept(&keys, 0);
-            first && second && third
+            let others = kept(&plan, &keys, 0, 0);
+            first && others
         }
     }
 }
 
+// Whether plan and keys hold their first contents past those of n nodes and of a attributes.
+fn kept(plan: &[u64], keys: &[u64], n: u8, a: u8) -> bool {
+    let second = rooms::words_kept(plan, 2 * (n as usize));
+    let third = rooms::words_kept(keys, 2 * (a as usize));
+    second && third
+}
+
 // The same of the plan for the offered choice, with the subjects as offered.
-fn offered(file: &[u8], offer: &[u8], p: usize, q: usize) -> bool
-    requires { ⌜ (p ≤ 128) × (q ≤ 128) ⌝ }
-{
+fn offered(file: &[u8], offer: &[u8], p: usize, q: usize) -> bool {
     let mut plan = [rooms::WORD; 128];
     let mut keys = [rooms::WORD; 128];
-    let said = offered_in(file, offer, &mut plan, &mut keys, p, q);
+    let said = planning::offered(
+        file,
+        offer,
+        rooms::words_front(&mut plan, p),
+        rooms::words_front(&mut keys, q),
+    );
     match said {
         OfferedPlan::Offered { total } => {
             lines::total(total);
             let h = values::header(file);
             lines::nodes(offer, &plan, h.nodes);
             lines::keys(&keys, h.attributes);
-            let second = rooms::words_kept(&plan, 2 * (h.nodes as usize));
-            let third = rooms::words_kept(&keys, 2 * (h.attributes as usize));
-            second && third
+            kept(&plan, &keys, h.nodes, h.attributes)
         }
         OfferedPlan::Refused { number, place } => {
             lines::refused(number, place);
-            let second = rooms::words_kept(&plan, 0);
-            let third = rooms::words_kept(&keys, 0);
-            second && third
+            kept(&plan, &keys, 0, 0)
         }
     }
-}
-
-// The answer with rooms cut to these lengths.
-fn cheapest_in(
-    file: &[u8],
-    choice: &mut [u8],
-    plan: &mut [u64],
-    keys: &mut [u64],
-    n: usize,
-    p: usize,
-    k: usize,
-) -> CheapestPlan
-    requires { ⌜ (n ≤ length (now choice)) × (p ≤ length (now plan)) × (k ≤ length (now keys)) ⌝ }
-{
-    planning::cheapest(file, &mut choice[..n], &mut plan[..p], &mut keys[..k])
-}
-
-// The answer with rooms cut to these lengths.
-fn offered_in(
-    file: &[u8],
-    offer: &[u8],
-    plan: &mut [u64],
-    keys: &mut [u64],
-    p: usize,
-    k: usize,
-) -> OfferedPlan
-    requires { ⌜ (p ≤ length (now plan)) × (k ≤ length (now keys)) ⌝ }
-{
-    planning::offered(file, offer, &mut plan[..p], &mut keys[..k])
 }

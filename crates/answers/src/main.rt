@@ -52,16 +52,7 @@ fn whole(k: u64, m: usize, o: usize, n: usize, p: usize, q: usize) -> bool
     if !filled(&mut offer, o) {
         return cut();
     }
-    asked(
-        k,
-        &file,
-        &offer,
-        m,
-        o,
-        least(n, 64),
-        least(p, 128),
-        least(q, 128),
-    )
+    asked(k, &file, &offer, m, o, n, p, q)
 }
 
 // The case cut to its lengths.
@@ -75,7 +66,7 @@ fn asked(
     p: usize,
     q: usize,
 ) -> bool
-    requires { ⌜ (m ≤ length (now file)) × (o ≤ length (now offer)) × (n ≤ 64) × (p ≤ 128) × (q ≤ 128) ⌝ }
+    requires { ⌜ (m ≤ length (now file)) × (o ≤ length (now offer)) ⌝ }
 {
     cases::answer(k, &file[..m], &offer[..o], n, p, q);
     true
@@ -115,16 +106,6 @@ fn four(head: &[u8], at: usize) -> usize
     requires { ⌜ at < 90 ⌝ }
 {
     two(head, at) * 65536 + two(head, at + 2)
-}
-
-// A room's length, at most what there is.
-fn least(n: usize, most: usize) -> usize
-    ensures { λ r. ⌜ r ≤ most ⌝ }
-{
-    if most < n {
-        return most;
-    }
-    n
 }
 
 fn cut() -> bool {

@@ -24,15 +24,14 @@ use Rattle.layout.specs.Layout.{headerOf, nightIn, nightOf}
 use Rattle.model.specs.Candidates.{candidateSet}
 use Rattle.model.specs.Choice.{ownerOf, Admissible, AllHave, total, steps}
 use Rattle.model.specs.Dp.{costRows, bestLast, chosenLast, giveDown, chosen}
-use Rattle.model.specs.Refusals.{withoutCandidate, candidateTrials, stepsTrials, offerBad, offerTrials}
+use Rattle.verdicts.specs.Refusals.{withoutCandidate, candidateTrials, stepsTrials, offerBad, offerTrials, cheapestTrials, offeredTrials}
 use Rattle.model.proofs.May.{set-exactly}
 use Rattle.model.proofs.Once.{least-once}
 use Rattle.model.proofs.Dp.{dp-least, chosen-total}
-use Rattle.reading.specs.Trials.{trials}
-use Rattle.reading.specs.Answers.{checkOf}
-use Rattle.reading.proofs.Opened.{accepted-header}
-use Rattle.reading.proofs.Promises.{accepted-promises}
-use Rattle.choosing.specs.Answers.{cheapestTrials, CheapestFor, ChoiceSays, ChoiceOnce, offeredTrials, offeredOf, OfferedOnce}
+use Rattle.trials.specs.Trials.{trials, checkOf}
+use Rattle.trials.proofs.Opened.{accepted-header}
+use Rattle.trials.proofs.Promises.{accepted-promises}
+use Rattle.choosing.specs.Answers.{CheapestFor, ChoiceSays, ChoiceOnce, offeredOf, OfferedOnce}
 use Rattle.choosing.specs.Held.{Given}
 use Rattle.choosing.specs.declared.Cheapest.the-variants.{Found, Refused}
 use Rattle.choosing.specs.declared.Offered.the-variants.{Costs, Refused as NotCosted}

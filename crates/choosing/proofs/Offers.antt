@@ -14,8 +14,9 @@ use Rattle.night.specs.Kinds.{usesLeft, usesRight}
 use Rattle.night.specs.Promised.{Promised}
 use Rattle.model.specs.Candidates.{candidateSet}
 use Rattle.model.specs.Choice.{Choice, Admissible, handed, costAt}
-use Rattle.model.specs.Refusals.{offerBad}
-use Rattle.model.proofs.Weight.{link-most, d-there}
+use Rattle.verdicts.specs.Refusals.{offerBad}
+use Rattle.model.proofs.CostRows.{paid}
+use Rattle.model.proofs.Weight.{link-most, paid-most, d-there}
 
 -- node i as it is read
 module _ (N : Night) (i : ℕ) (v : Node) (read : v ≡ nodeOf N i) where
@@ -45,3 +46,7 @@ module _ (N : Night) (i : ℕ) (v : Node) (read : v ≡ nodeOf N i) where
 pub handed-most : (N : Night) (sound : Promised N) (d : Choice) → Admissible N d → (i k : ℕ) → i < N .header .nodes → k < N .header .nodes → handed N d i k ≤ 1000000000
 unfolding handed
 handed-most N sound d A i k l h = link-most N sound k (d k) (d i) h (d-there N sound d A k h) (d-there N sound d A i l)
+
+-- what an offered subject is paid
+pub paid-little : (N : Night) → Promised N → (offer : List ℕ) → Admissible N (λ j. getD offer j 0) → (i r : ℕ) → i < N .header .nodes → r ≡ paid N i (getD offer i 0) → r ≤ 1000000
+paid-little N sound offer A i r l e = rw e (paid-most N sound i (getD offer i 0) l (d-there N sound (λ j. getD offer j 0) A i l))

@@ -18,7 +18,7 @@ use Rattle.night.specs.Promised.{Promised}
 use Rattle.model.specs.Candidates.{candidateSet}
 use Rattle.model.specs.Choice.{ownerOf, weight}
 use Rattle.model.specs.Dp.{subjectsOf}
-use Rattle.model.specs.Refusals.{withoutCandidate}
+use Rattle.verdicts.specs.Refusals.{withoutCandidate}
 use Rattle.choosing.specs.Held.{HasSets}
 
 -- a set of w bits has at most w members

@@ -1,14 +1,13 @@
 -- What each case of an answer says: document 01's number and place, or the values.
 use Prim.Native.Nat.{ℕ, _≤_}
 use mathlib.Core.Path.{_≡_}
-use mathlib.Core.List.{List, _++_}
+use mathlib.Core.List.{List}
 use lib.ListN.{length, getD, replicate}
-use Rattle.laws.specs.Trials.{Trial, Says, answers, refuses, verdict}
+use Rattle.laws.specs.Trials.{Says, answers, refuses, verdict}
 use Rattle.night.specs.Night.{Night}
 use Rattle.layout.specs.Layout.{nightOf}
 use Rattle.model.specs.Choice.{Least, total, steps}
-use Rattle.model.specs.Refusals.{candidateTrials, stepsTrials, offerTrials}
-use Rattle.reading.specs.Trials.{trials}
+use Rattle.verdicts.specs.Refusals.{cheapestTrials, offeredTrials}
 use Rattle.reading.specs.declared.Checked.{Checked}
 use Rattle.reading.specs.declared.Checked.the-variants.{Accepted, Refused}
 use Rattle.choosing.specs.declared.Chosen.{Chosen}
@@ -16,10 +15,6 @@ use Rattle.choosing.specs.declared.Cheapest.{Cheapest}
 use Rattle.choosing.specs.declared.Cheapest.the-variants.{Found, Refused as NotFound}
 use Rattle.choosing.specs.declared.Offered.{Offered}
 use Rattle.choosing.specs.declared.Offered.the-variants.{Costs, Refused as NotCosted}
-
--- reading's trials, then 12, then 13
-unfoldable pub cheapestTrials : List ℕ → List Trial
-cheapestTrials s = trials s ++ (candidateTrials (nightOf s) ++ stepsTrials (nightOf s))
 
 -- the right values: the cheapest choice, with 0 past the last node; its total; the steps
 pub record CheapestFor (N : Night) (subjects : List ℕ) (total′ steps′ : ℕ) : Type 0 where
@@ -57,10 +52,7 @@ abbrev pub notCosted : Checked → Offered
 notCosted (Accepted h) = Costs 0
 notCosted (Refused n p) = NotCosted n p
 
--- reading's trials, then 14; the total of the offered choice
-unfoldable pub offeredTrials : List ℕ → List ℕ → List Trial
-offeredTrials s offer = trials s ++ offerTrials (nightOf s) offer
-
+-- the total of the offered choice, where no trial fails
 unfoldable pub offeredOf : List ℕ → List ℕ → Says ℕ
 offeredOf s offer = verdict (offeredTrials s offer) (total (nightOf s) (λ i. getD offer i 0))
 

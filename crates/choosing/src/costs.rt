@@ -13,7 +13,7 @@ pub(crate) fn paid(file: &[u8], h: Header, i: usize, p: u8) -> u64
     ensures { λ r. ⌜ r ≡ (if eqb (nodeOf (nightIn (now (file .entry)) h) i .kind) 0 then 0 else stepPrice (nightIn (now (file .entry)) h) i p) ⌝ }
 {
     let v = values::node(file, h, i);
-    if v.kind == 0 {
+    if v.kind == night::LEAF {
         return 0;
     }
     values::step_price(file, h, i, p as usize) as u64

@@ -5,15 +5,12 @@ use layout::values;
 use night::Header;
 use rules::kinds;
 ghost use mathlib.Core.Path.{_≡_};
-ghost use mathlib.Core.Bool.{true};
 ghost use Prim.Native.Nat.{_<_};
-ghost use Rattle.laws.specs.Choose.{if_then_else_};
 ghost use Rattle.layout.specs.Layout.{nightIn};
 ghost use Rattle.night.specs.Promised.{Promised};
 ghost use Rattle.model.specs.Choice.{AllHave, steps};
-ghost use Rattle.model.specs.Dp.{costRows, giveChild, giveBoth, giveDown};
 ghost use Rattle.choosing.specs.Answers.{CheapestFor};
-ghost use Rattle.choosing.specs.Held.{HasSets, HasRows, Given};
+ghost use Rattle.choosing.specs.Held.{HasSets, Given, Giving, GivingAt, GivingChild, givenChild, GivesBoth, GivesDown};
 
 // A choice with its total.
 pub(crate) struct Picked {
@@ -32,8 +29,8 @@ fn give_child(
     used: bool,
     k: u8,
 ) -> [u8; 64]
-    requires { ⌜ Promised (nightIn (now file) h) × (i < h .nodes) × (used ≡ true → k < h .nodes) × HasSets (nightIn (now file) h) sets × HasRows (nightIn (now file) h) (h .nodes) (now rows) × Given (nightIn (now file) h) chosen ⌝ }
-    ensures { λ r. ⌜ (r ≡ (if used then giveChild (nightIn (now (file .entry)) h) (costRows (nightIn (now (file .entry)) h)) i k chosen else chosen)) × Given (nightIn (now (file .entry)) h) r ⌝ }
+    requires { ⌜ GivingChild (nightIn (now file) h) h sets (now rows) i used k chosen ⌝ }
+    ensures { λ r. ⌜ (r ≡ givenChild (nightIn (now (file .entry)) h) i used k chosen) × Given (nightIn (now (file .entry)) h) r ⌝ }
 {
     if used {
         let best = rows::best_child(file, h, sets, rows, k as usize, chosen[i]);
@@ -53,8 +50,8 @@ fn give_both(
     chosen: [u8; 64],
     i: usize,
 ) -> [u8; 64]
-    requires { ⌜ Promised (nightIn (now file) h) × (i < h .nodes) × HasSets (nightIn (now file) h) sets × HasRows (nightIn (now file) h) (h .nodes) (now rows) × Given (nightIn (now file) h) chosen ⌝ }
-    ensures { λ r. ⌜ (r ≡ giveBoth (nightIn (now (file .entry)) h) (costRows (nightIn (now (file .entry)) h)) i chosen) × Given (nightIn (now (file .entry)) h) r ⌝ }
+    requires { ⌜ GivingAt (nightIn (now file) h) h sets (now rows) i chosen ⌝ }
+    ensures { λ r. ⌜ GivesBoth (nightIn (now (file .entry)) h) i chosen r ⌝ }
 {
     let v = values::node(file, h, i);
     let left = give_child(
@@ -87,8 +84,8 @@ fn give_down(
     rows: &[[u64; 16]],
     start: [u8; 64],
 ) -> [u8; 64]
-    requires { ⌜ Promised (nightIn (now file) h) × HasSets (nightIn (now file) h) sets × HasRows (nightIn (now file) h) (h .nodes) (now rows) × Given (nightIn (now file) h) start ⌝ }
-    ensures { λ r. ⌜ (r ≡ giveDown (nightIn (now (file .entry)) h) (costRows (nightIn (now (file .entry)) h)) (h .nodes) start) × Given (nightIn (now (file .entry)) h) r ⌝ }
+    requires { ⌜ Giving (nightIn (now file) h) h sets (now rows) start ⌝ }
+    ensures { λ r. ⌜ GivesDown (nightIn (now (file .entry)) h) h start r ⌝ }
 {
     let n = h.nodes as usize;
     let mut chosen = start;

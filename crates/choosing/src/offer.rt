@@ -5,15 +5,14 @@ use night::Header;
 use rules::kinds;
 use sets::subjects;
 ghost use mathlib.Core.Path.{_≡_};
-ghost use mathlib.Core.Bool.{true};
 ghost use Prim.Native.Nat.{_<_, _≤_};
 ghost use lib.ListN.{length, getD};
-ghost use Rattle.laws.specs.Choose.{if_then_else_};
 ghost use Rattle.laws.specs.First.{first};
 ghost use Rattle.layout.specs.Layout.{nightIn};
 ghost use Rattle.night.specs.Promised.{Promised};
 ghost use Rattle.model.specs.Choice.{Admissible, handed, costAt, total};
-ghost use Rattle.model.specs.Refusals.{offerBad};
+ghost use Rattle.verdicts.specs.Refusals.{offerBad};
+ghost use Rattle.choosing.specs.Held.{Offering, OfferingChild, handedIf};
 
 // Whether the subject offered for node i is no candidate, or at a leaf not the owner.
 fn offer_bad(file: &[u8], h: Header, offer: &[u8], i: usize) -> bool
@@ -22,7 +21,7 @@ fn offer_bad(file: &[u8], h: Header, offer: &[u8], i: usize) -> bool
 {
     let p = offer[i];
     let v = values::node(file, h, i);
-    if v.kind == 0 {
+    if v.kind == night::LEAF {
         let relation = values::relation(file, h, v.x as usize);
         return p != relation.owner;
     }
@@ -48,8 +47,8 @@ pub(crate) fn lowest_bad(file: &[u8], h: Header, offer: &[u8]) -> u8
 
 // What it costs to hand child k to node i, where node i has this child.
 fn handed_over(file: &[u8], h: Header, offer: &[u8], i: usize, used: bool, k: u8) -> u64
-    requires { ⌜ Promised (nightIn (now file) h) × Admissible (nightIn (now file) h) (λ j. getD (now offer) j 0) × (length (now offer) ≡ h .nodes) × (i < h .nodes) × (used ≡ true → k < h .nodes) ⌝ }
-    ensures { λ r. ⌜ (r ≡ (if used then handed (nightIn (now (file .entry)) h) (λ j. getD (now (offer .entry)) j 0) i k else 0)) × (r ≤ 1000000000) ⌝ }
+    requires { ⌜ OfferingChild (nightIn (now file) h) h (now offer) i used k ⌝ }
+    ensures { λ r. ⌜ (r ≡ handedIf (nightIn (now (file .entry)) h) (now (offer .entry)) i used k) × (r ≤ 1000000000) ⌝ }
 {
     if used {
         let child = k as usize;
@@ -61,7 +60,7 @@ fn handed_over(file: &[u8], h: Header, offer: &[u8], i: usize, used: bool, k: u8
 
 // What node i costs.
 fn cost_at(file: &[u8], h: Header, offer: &[u8], i: usize) -> u64
-    requires { ⌜ Promised (nightIn (now file) h) × Admissible (nightIn (now file) h) (λ j. getD (now offer) j 0) × (length (now offer) ≡ h .nodes) × (i < h .nodes) ⌝ }
+    requires { ⌜ Offering (nightIn (now file) h) h (now offer) i ⌝ }
     ensures { λ r. ⌜ (r ≡ costAt (nightIn (now (file .entry)) h) (λ j. getD (now (offer .entry)) j 0) i) × (r ≤ 2001000000) ⌝ }
 {
     let v = values::node(file, h, i);

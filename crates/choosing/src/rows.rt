@@ -8,15 +8,14 @@ use sets::subjects;
 ghost use mathlib.Core.Path.{_≡_};
 ghost use mathlib.Core.Bool.{true};
 ghost use Prim.Native.Nat.{_+_, _*_, _<_, _≤_};
-ghost use lib.ListN.{length, getD};
 ghost use Rattle.laws.specs.Choose.{if_then_else_};
 ghost use Rattle.laws.specs.Upwards.{upwards};
 ghost use Rattle.layout.specs.Layout.{nightIn};
-ghost use Rattle.night.specs.Night.{nodeOf, linkPrice};
+ghost use Rattle.night.specs.Night.{linkPrice};
 ghost use Rattle.night.specs.Promised.{Promised};
 ghost use Rattle.sets.specs.Sets.{In, member};
-ghost use Rattle.model.specs.Dp.{subjectsOf, better, bestOf, noRow, bestChild, rowEntry, rowStep, costRows, bestLast};
-ghost use Rattle.choosing.specs.Held.{HasSets, HasRows, Fits};
+ghost use Rattle.model.specs.Dp.{better, bestOf, bestChild, rowEntry, rowStep, costRows, bestLast};
+ghost use Rattle.choosing.specs.Held.{HasSets, HasRows, Fits, Searched, SearchedIf, Filling, entryAt};
 
 // One more, subject t at this cost: taken where there is none so far, or where it costs less.
 fn better(best: Best, cost: u64, t: u8) -> Best
@@ -79,7 +78,7 @@ pub(crate) fn best_child(
     k: usize,
     s: u8,
 ) -> Best
-    requires { ⌜ (k < 64) × (length (now rows) ≡ 64) × HasSets (nightIn (now file) h) sets × Fits (nightIn (now file) h) (getD (now rows) k noRow) (subjectsOf (nightIn (now file) h) k) (nodeOf (nightIn (now file) h) k .size) s ⌝ }
+    requires { ⌜ Searched (nightIn (now file) h) sets (now rows) k s ⌝ }
     ensures { λ r. ⌜ r ≡ bestChild (nightIn (now (file .entry)) h) (now (rows .entry)) k s ⌝ }
 {
     let v = values::node(file, h, k);
@@ -96,7 +95,7 @@ fn child_least(
     k: u8,
     s: u8,
 ) -> u64
-    requires { ⌜ (length (now rows) ≡ 64) × HasSets (nightIn (now file) h) sets × (used ≡ true → k < 64) × (used ≡ true → Fits (nightIn (now file) h) (getD (now rows) k noRow) (subjectsOf (nightIn (now file) h) k) (nodeOf (nightIn (now file) h) k .size) s) ⌝ }
+    requires { ⌜ SearchedIf (nightIn (now file) h) used sets (now rows) k s ⌝ }
     ensures { λ r. ⌜ (r ≡ (if used then bestChild (nightIn (now (file .entry)) h) (now (rows .entry)) k s .least else 0)) × (r ≤ 129064000000) ⌝ }
 {
     if used {
@@ -108,7 +107,7 @@ fn child_least(
 
 // What node i costs with all under it where subject s does it, the least.
 fn row_entry(file: &[u8], h: Header, sets: [u16; 64], rows: &[[u64; 16]], i: usize, s: u8) -> u64
-    requires { ⌜ Promised (nightIn (now file) h) × (i < h .nodes) × (s < h .subjects) × HasSets (nightIn (now file) h) sets × HasRows (nightIn (now file) h) i (now rows) ⌝ }
+    requires { ⌜ Filling (nightIn (now file) h) h sets (now rows) i s ⌝ }
     ensures { λ r. ⌜ r ≡ rowEntry (nightIn (now (file .entry)) h) (upwards (rowStep (nightIn (now (file .entry)) h)) i) i s ⌝ }
 {
     let v = values::node(file, h, i);
@@ -120,7 +119,7 @@ fn row_entry(file: &[u8], h: Header, sets: [u16; 64], rows: &[[u64; 16]], i: usi
 // The entry of subject s in node i's row: nothing where it may not do it.
 fn entry(file: &[u8], h: Header, sets: [u16; 64], rows: &[[u64; 16]], i: usize, s: u8) -> u64
     requires { ⌜ Promised (nightIn (now file) h) × (i < h .nodes) × HasSets (nightIn (now file) h) sets × HasRows (nightIn (now file) h) i (now rows) ⌝ }
-    ensures { λ r. ⌜ r ≡ (if member (subjectsOf (nightIn (now (file .entry)) h) i) s then rowEntry (nightIn (now (file .entry)) h) (upwards (rowStep (nightIn (now (file .entry)) h)) i) i s else 0) ⌝ }
+    ensures { λ r. ⌜ r ≡ entryAt (nightIn (now (file .entry)) h) i s ⌝ }
 {
     if subjects::has(sets[i], s) {
         return row_entry(file, h, sets, rows, i, s);

@@ -18,7 +18,7 @@ ghost use Rattle.choosing.specs.Held.{HasSets};
 fn counted(kind: u8, among: u16) -> u32
     ensures { λ r. ⌜ (r ≡ (if eqb kind 0 then 1 else size among)) × (r ≤ 16) ⌝ }
 {
-    if kind == 0 {
+    if kind == night::LEAF {
         return 1;
     }
     subjects::size(among)

@@ -11,7 +11,7 @@ ghost use Rattle.laws.specs.First.{first};
 ghost use Rattle.laws.specs.Upwards.{each};
 ghost use Rattle.layout.specs.Layout.{nightIn};
 ghost use Rattle.model.specs.Dp.{subjectsOf};
-ghost use Rattle.model.specs.Refusals.{withoutCandidate};
+ghost use Rattle.verdicts.specs.Refusals.{withoutCandidate};
 ghost use Rattle.choosing.specs.Held.{HasSets};
 
 // The subjects of node i.
@@ -19,7 +19,7 @@ fn subjects_of(file: &[u8], h: Header, i: usize) -> u16
     ensures { λ r. ⌜ r ≡ subjectsOf (nightIn (now (file .entry)) h) i ⌝ }
 {
     let v = values::node(file, h, i);
-    if v.kind == 0 {
+    if v.kind == night::LEAF {
         return subjects::single(values::relation(file, h, v.x as usize).owner);
     }
     eligible::candidate_set(file, h, i)
@@ -42,7 +42,7 @@ pub(crate) fn all_subjects(file: &[u8], h: Header) -> [u16; 64]
 fn is_without(kind: u8, among: u16) -> bool
     ensures { λ r. ⌜ r ≡ (if eqb kind 0 then false else eqb among 0) ⌝ }
 {
-    if kind == 0 {
+    if kind == night::LEAF {
         return false;
     }
     among == 0

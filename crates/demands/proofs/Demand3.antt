@@ -13,24 +13,22 @@ use Rattle.night.specs.declared.Header.{Header}
 use Rattle.night.specs.Night.{Night}
 use Rattle.night.specs.Promised.{Promised}
 use Rattle.layout.specs.Layout.{headerOf, nightOf}
-use Rattle.reading.specs.Trials.{trials}
-use Rattle.reading.specs.Answers.{checkOf}
-use Rattle.reading.proofs.Promises.{accepted-promises}
+use Rattle.trials.specs.Trials.{trials, checkOf}
+use Rattle.trials.proofs.Promises.{accepted-promises}
 use Rattle.model.specs.Candidates.{candidateSet}
 use Rattle.model.specs.Choice.{Choice, Admissible}
-use Rattle.model.specs.Refusals.{offerBad, offerTrials}
+use Rattle.verdicts.specs.Refusals.{offerBad, offerTrials, cheapestTrials, offeredTrials, Rooms, cheapestPlanTrials, offeredPlanTrials}
 use Rattle.model.specs.Plan.{built, nameIn, holdersIn, inTurn, planRoom, keysRoom}
-use Rattle.model.specs.Run.{keyOf, holders}
+use Rattle.run.specs.Run.{keyOf, holders}
 use Rattle.model.specs.Demand.{Assigned, FromCandidates}
 use Rattle.model.proofs.Weight.{d-there}
 use Rattle.model.proofs.Turns.{turn-same, turn-at}
 use Rattle.model.proofs.SamePlan.{Alike, key-same, holders-same, clean-same}
 use Rattle.model.proofs.KeysAgree.{keys-agree}
 use Rattle.model.proofs.Demand.{runs-exactly, built-runs}
-use Rattle.choosing.specs.Answers.{cheapestTrials, offeredTrials}
 use Rattle.choosing.proofs.Answered.{offer-admissible}
 use Rattle.planning.specs.declared.CandidateSet.the-variants.{Among}
-use Rattle.planning.specs.Answers.{candidatesSaid, candidatesOf, Rooms, Filled, cheapestPlanTrials, offeredPlanTrials}
+use Rattle.planning.specs.Answers.{candidatesSaid, candidatesOf, Filled}
 use Rattle.planning.proofs.Answered.{candidates-once}
 use Rattle.demands.specs.Demand3.{EachCandidate, Demand3, ByAnswers, planIn, RunsWith, CheapestRuns, OfferedRuns}
 

@@ -2,5 +2,5 @@
 pub mod Marked
 pub mod Leaves
 pub mod Once
-pub mod Runs
+pub mod SampleRuns
 pub mod Demand3

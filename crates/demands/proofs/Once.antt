@@ -11,12 +11,13 @@ use Rattle.model.specs.Choice.{Choice}
 use Rattle.model.specs.Plan.{built}
 use Rattle.model.proofs.Once.{least-total, least-once}
 use Rattle.model.proofs.SamePlan.{built-alike, plan-same, keys-same}
-use Rattle.planning.specs.Answers.{Rooms, Filled, CheapestFilled, cheapestPlanTrials, offeredPlanTrials}
+use Rattle.planning.specs.Answers.{Filled, CheapestFilled}
 use Rattle.planning.specs.declared.CheapestPlan.{CheapestPlan}
 use Rattle.planning.specs.declared.CheapestPlan.the-variants.{Cheapest, Refused as NoCheapest}
 use Rattle.planning.specs.declared.OfferedPlan.the-variants.{Offered, Refused as NoOffered}
 use Rattle.planning.specs.declared.OfferedPlan.{OfferedPlan}
 use Rattle.tollburrow.specs.Codes.{cheapestCode, offeredCode, totalOr, stepsOr, costOr}
+use Rattle.verdicts.specs.Refusals.{Rooms, cheapestPlanTrials, offeredPlanTrials}
 use Rattle.demands.specs.Once.{CheapestPlanOnce, OfferedPlanOnce, CheapestOutOnce, OfferedOutOnce}
 
 -- a row of trials either passes or refuses, and with one number and place

@@ -8,23 +8,30 @@ use lib.ListN.{getD}
 use Rattle.laws.specs.Trials.{answers}
 use Rattle.sets.specs.Sets.{In}
 use Rattle.night.specs.declared.Header.{Header}
-use Rattle.night.specs.Night.{nodeOf}
+use Rattle.night.specs.Night.{Night, nodeOf}
 use Rattle.layout.specs.Layout.{nightOf}
-use Rattle.reading.specs.Answers.{checkOf}
+use Rattle.trials.specs.Trials.{checkOf}
 use Rattle.model.specs.Choice.{Choice}
-use Rattle.model.specs.Keys.{Plan}
+use Rattle.run.specs.Keys.{Plan}
 use Rattle.model.specs.Plan.{built, inTurn, keysRoom}
-use Rattle.model.specs.Run.{Clean, keyOf, holders}
+use Rattle.run.specs.Run.{Clean, keyOf, holders}
 use Rattle.model.specs.Demand.{Assigned}
 use Rattle.planning.specs.declared.CandidateSet.{CandidateSet}
 use Rattle.planning.specs.declared.CandidateSet.the-variants.{Among}
 use Rattle.planning.specs.declared.CheapestPlan.the-variants.{Cheapest}
 use Rattle.planning.specs.declared.OfferedPlan.the-variants.{Offered}
-use Rattle.planning.specs.Answers.{candidatesSaid, candidatesOf, Rooms, CheapestSays, OfferedSays}
+use Rattle.verdicts.specs.Refusals.{Rooms}
+use Rattle.planning.specs.Answers.{candidatesSaid, candidatesOf, CheapestSays, OfferedSays}
 
 -- each step's subject is a member of the set that `candidates` promises
 abbrev pub EachCandidate : List ℕ → Choice → Type 0
-EachCandidate s c = (i set : ℕ) → i < nightOf s .header .nodes → (nodeOf (nightOf s) i .kind ≡ 0 → ⊥) → candidatesOf s i ≡ answers set → In (c i) set
+EachCandidate s c =
+    (i set : ℕ) → i < nightOf s .header .nodes → (nodeOf (nightOf s) i .kind ≡ 0 → ⊥) → candidatesOf s i ≡ answers set
+    → In (c i) set
+
+-- the names and holders that a plan is given out with are those of its run
+abbrev pub RunKeys : Night → Plan → Type 0
+RunKeys N p = keysRoom N p ≡ inTurn (keyOf N p) (holders N p) (N .header .attributes)
 
 abbrev pub Demand3 : Type 0
 Demand3 =
@@ -32,7 +39,7 @@ Demand3 =
     → (((opens : ℕ → ℕ) × (seals : ℕ → ℕ) × Clean (nightOf s) (record { subject = c; opens = opens; seals = seals })) ↔ EachCandidate s c)
     × (EachCandidate s c
     → Clean (nightOf s) (built (nightOf s) c)
-    × (keysRoom (nightOf s) (built (nightOf s) c) ≡ inTurn (keyOf (nightOf s) (built (nightOf s) c)) (holders (nightOf s) (built (nightOf s) c)) (nightOf s .header .attributes)))
+    × RunKeys (nightOf s) (built (nightOf s) c))
 
 -- the first part with the very sets that `candidates` answers
 abbrev pub ByAnswers : Type 0
@@ -54,7 +61,9 @@ pub record RunsWith (s subjects : List ℕ) (after : Rooms) : Type 0 where
 
 -- whenever `cheapest` answers, what stands in the rooms runs so
 abbrev pub CheapestRuns : Type 0
-CheapestRuns = (s : List ℕ) (before after : Rooms) (total steps : ℕ) → CheapestSays s before after (Cheapest total steps) → RunsWith s (after .choice) after
+CheapestRuns =
+    (s : List ℕ) (before after : Rooms) (total steps : ℕ) → CheapestSays s before after (Cheapest total steps)
+    → RunsWith s (after .choice) after
 
 -- whenever `offered` answers, too
 abbrev pub OfferedRuns : Type 0

@@ -3,5 +3,5 @@ pub mod SampleNight
 pub mod Marked
 pub mod Leaves
 pub mod Once
-pub mod Runs
+pub mod SampleRuns
 pub mod Demand3

@@ -13,10 +13,10 @@ use Rattle.night.specs.Views.{anySubject, viewOf, clearOf, sealedOf}
 use Rattle.layout.specs.Layout.{nightOf}
 use Rattle.model.specs.declared.Table.{Table}
 use Rattle.model.specs.Ties.{untied, tie}
-use Rattle.model.specs.Tables.{blank, stepTable}
+use Rattle.model.specs.Tables.{stepTable, FunctionTies}
 use Rattle.model.specs.Candidates.{clearOffends, sealedOffends, tiedOffends}
 use Rattle.model.specs.Choice.{Choice, Least, total, steps}
-use Rattle.reading.specs.Sample.{sample}
+use Rattle.trials.specs.Sample.{sample}
 use Rattle.planning.specs.Answers.{candidatesOf}
 use Rattle.demands.specs.SampleNight.{sampleNight}
 
@@ -31,13 +31,6 @@ conditions p =
     ∷ eqb (sealedOffends profile (clearOf sampleNight p) (sealedOf sampleNight p)) 0
     ∷ not (somewhere (tiedOffends profile (clearOf sampleNight p) (sealedOf sampleNight p)) 64)
     ∷ []
-
--- a user function over attribute a alone, and an operand that has just this attribute
-abbrev pub functionOver : ℕ → Node
-functionOver a = record { kind = 8; left = 0; right = 255; x = a; y = 255; spare1 = 0; spare2 = 0; spare3 = 0; set = single 64 a; needed = 0; size = 0 }
-
-abbrev pub operandOf : ℕ → Table
-operandOf a = record { clear = single 64 a; sealed = 0; tested = 0; hidden = 0; tied = untied }
 
 -- subjects H I U X Y Z are 0 to 5
 pub record Marked : Type 0 where
@@ -61,5 +54,8 @@ pub record Marked : Type 0 where
   pub steps-all : steps (nightOf sample) ≡ 76
   pub least-there : (c : Choice) × Least (nightOf sample) c
   pub total-least : (c : Choice) → Least (nightOf sample) c → total (nightOf sample) c ≡ 14
-  -- a user function over {a} ties {a}
-  pub function-ties : (a : ℕ) → a < 64 → getD (stepTable (functionOver a) (operandOf a) blank .tied) a 0 ≡ single 64 a
+  -- a user function over {a} ties {a}, whatever its operand shows and ties; where a was untied, its tied set is {a} alone
+  pub function-ties : FunctionTies
+  pub function-ties-alone :
+      (v : Node) (a : ℕ) (l r : Table) → a < 64 → v .kind ≡ 8 → v .set ≡ single 64 a → getD (l .tied) a 0 ≡ 0
+      → getD (stepTable v l r .tied) a 0 ≡ single 64 a

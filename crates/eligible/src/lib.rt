@@ -1,6 +1,5 @@
 // The candidates of a step: for each subject the step's tables are worked out anew.
 use layout::values;
-use layout::views;
 use night::Header;
 use rules::kinds;
 use sets::subjects;
@@ -9,13 +8,10 @@ use tables::parts;
 use tables::steps;
 ghost use mathlib.Core.Path.{_≡_};
 ghost use mathlib.Core.Bool.{true};
-ghost use Rattle.laws.specs.Choose.{if_then_else_};
 ghost use Rattle.layout.specs.Layout.{nightIn};
-ghost use Rattle.night.specs.Kinds.{usesRight};
-ghost use Rattle.night.specs.Night.{nodeOf};
-ghost use Rattle.night.specs.Views.{clearOf, sealedOf};
 ghost use Rattle.sets.specs.Sets.{single};
 ghost use Rattle.model.specs.Candidates.{mayTake, isCandidate, candidateSet};
+ghost use Rattle.eligible.specs.Asked.{takesRight, asCandidate};
 
 // Whether a subject that sees `clear` and `sealed` may have the least view that node i takes of operand c.
 fn may_take(file: &[u8], h: Header, i: usize, c: u8, clear: u64, sealed: u64) -> bool
@@ -28,7 +24,7 @@ fn may_take(file: &[u8], h: Header, i: usize, c: u8, clear: u64, sealed: u64) ->
 
 // The same of the right operand, where the node has one.
 fn may_take_right(file: &[u8], h: Header, i: usize, clear: u64, sealed: u64) -> bool
-    ensures { λ r. ⌜ r ≡ (if usesRight (nodeOf (nightIn (now (file .entry)) h) i .kind) then mayTake (nightIn (now (file .entry)) h) i (nodeOf (nightIn (now (file .entry)) h) i .right) clear sealed else true) ⌝ }
+    ensures { λ r. ⌜ r ≡ takesRight (nightIn (now (file .entry)) h) i clear sealed ⌝ }
 {
     let v = values::node(file, h, i);
     if kinds::uses_right(v.kind) {
@@ -42,7 +38,7 @@ fn is_candidate(file: &[u8], h: Header, i: usize, clear: u64, sealed: u64) -> bo
     ensures { λ r. ⌜ r ≡ isCandidate (nightIn (now (file .entry)) h) i clear sealed ⌝ }
 {
     let v = values::node(file, h, i);
-    if v.kind == 0 {
+    if v.kind == night::LEAF {
         return false;
     }
     if may_take(file, h, i, v.left, clear, sealed) {
@@ -56,7 +52,7 @@ fn is_candidate(file: &[u8], h: Header, i: usize, clear: u64, sealed: u64) -> bo
 
 // Subject p as a set where it is a candidate of node i, else no subject.
 fn as_candidate(file: &[u8], h: Header, i: usize, p: u8) -> u16
-    ensures { λ r. ⌜ r ≡ (if isCandidate (nightIn (now (file .entry)) h) i (clearOf (nightIn (now (file .entry)) h) p) (sealedOf (nightIn (now (file .entry)) h) p) then single 16 p else 0) ⌝ }
+    ensures { λ r. ⌜ r ≡ asCandidate (nightIn (now (file .entry)) h) i p ⌝ }
 {
     let view = views::overall(file, h, p);
     if is_candidate(file, h, i, view.clear, view.sealed) {

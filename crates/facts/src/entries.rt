@@ -1,38 +1,26 @@
 // The entries that a case may ask, and what each says.
+use crate::wide;
 use layout::values;
 use planning::CheapestPlan;
 use planning::OfferedPlan;
 use reading::Checked;
 use show::rooms;
-ghost use Prim.Native.Nat.{_≤_};
-ghost use lib.ListN.{length};
 
 // Asks the entry: 1 cheapest, 2 offered, else check. `how` holds the entry and the lengths of the rooms.
 pub(crate) fn ask(how: &[u8], offer: &[u8], file: &[u8]) {
     if how.len() < 4 {
         return;
     }
-    let plan = least(how[2], 128);
-    let keys = least(how[3], 128);
+    let plan = wide(how[2]);
+    let keys = wide(how[3]);
     if how[0] == 1 {
-        cheapest(file, least(how[1], 64), plan, keys);
+        cheapest(file, wide(how[1]), plan, keys);
     } else if how[0] == 2 {
         offered(file, offer, plan, keys);
     } else {
         check(file);
     }
     io::write_all(1, b"\n");
-}
-
-// A room's length, at most what there is.
-fn least(length: u8, most: usize) -> usize
-    ensures { λ r. ⌜ r ≤ most ⌝ }
-{
-    let n = length as usize;
-    if most < n {
-        return most;
-    }
-    n
 }
 
 // The verdict of reading, and the length of the part of grant records.
@@ -47,13 +35,16 @@ fn check(file: &[u8]) {
 }
 
 // The cheapest plan's total and steps, with rooms of n, p and k, and whether all that had to stay in them did.
-fn cheapest(file: &[u8], n: usize, p: usize, k: usize)
-    requires { ⌜ (n ≤ 64) × (p ≤ 128) × (k ≤ 128) ⌝ }
-{
+fn cheapest(file: &[u8], n: usize, p: usize, k: usize) {
     let mut choice = [rooms::BYTE; 64];
     let mut plan = [rooms::WORD; 128];
     let mut keys = [rooms::WORD; 128];
-    let said = cheapest_in(file, &mut choice, &mut plan, &mut keys, n, p, k);
+    let said = planning::cheapest(
+        file,
+        rooms::bytes_front(&mut choice, n),
+        rooms::words_front(&mut plan, p),
+        rooms::words_front(&mut keys, k),
+    );
     match said {
         CheapestPlan::Cheapest { total, steps } => {
             costs(total);
@@ -76,28 +67,16 @@ fn cheapest(file: &[u8], n: usize, p: usize, k: usize)
     }
 }
 
-// The answer with rooms cut to these lengths.
-fn cheapest_in(
-    file: &[u8],
-    choice: &mut [u8],
-    plan: &mut [u64],
-    keys: &mut [u64],
-    n: usize,
-    p: usize,
-    k: usize,
-) -> CheapestPlan
-    requires { ⌜ (n ≤ length (now choice)) × (p ≤ length (now plan)) × (k ≤ length (now keys)) ⌝ }
-{
-    planning::cheapest(file, &mut choice[..n], &mut plan[..p], &mut keys[..k])
-}
-
 // The same of the plan for an offered choice.
-fn offered(file: &[u8], offer: &[u8], p: usize, k: usize)
-    requires { ⌜ (p ≤ 128) × (k ≤ 128) ⌝ }
-{
+fn offered(file: &[u8], offer: &[u8], p: usize, k: usize) {
     let mut plan = [rooms::WORD; 128];
     let mut keys = [rooms::WORD; 128];
-    let said = offered_in(file, offer, &mut plan, &mut keys, p, k);
+    let said = planning::offered(
+        file,
+        offer,
+        rooms::words_front(&mut plan, p),
+        rooms::words_front(&mut keys, k),
+    );
     match said {
         OfferedPlan::Offered { total } => {
             costs(total);
@@ -117,20 +96,6 @@ fn offered(file: &[u8], offer: &[u8], p: usize, k: usize)
             );
         }
     }
-}
-
-// The answer with rooms cut to these lengths.
-fn offered_in(
-    file: &[u8],
-    offer: &[u8],
-    plan: &mut [u64],
-    keys: &mut [u64],
-    p: usize,
-    k: usize,
-) -> OfferedPlan
-    requires { ⌜ (p ≤ length (now plan)) × (k ≤ length (now keys)) ⌝ }
-{
-    planning::offered(file, offer, &mut plan[..p], &mut keys[..k])
 }
 
 // Whether all three rooms kept what had to stay.

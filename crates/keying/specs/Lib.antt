@@ -1,2 +1,3 @@
--- The nodes of a plan as events.
+-- The nodes of a plan as events, and the parts of the built plan.
 pub mod Nodes
+pub mod Parts

@@ -3,7 +3,7 @@ use Prim.Native.Nat.{ℕ}
 use mathlib.Core.List.{List}
 use lib.ListN.{getD}
 use Rattle.laws.specs.Upwards.{each}
-use Rattle.model.specs.Keys.{Event}
+use Rattle.run.specs.Keys.{Event}
 
 -- the events of the first n nodes: each node's subject opened and sealed what the lists say
 unfoldable pub nodeEvents : List ℕ → List ℕ → List ℕ → ℕ → List Event

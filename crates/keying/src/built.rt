@@ -10,6 +10,13 @@ ghost use Rattle.laws.specs.Upwards.{each};
 ghost use Rattle.layout.specs.Layout.{nightIn};
 ghost use Rattle.night.specs.Night.{nodeOf};
 ghost use Rattle.model.specs.Tables.{tableOf};
+ghost use Rattle.keying.specs.Parts.{partAt};
+
+// A part of the built plan.
+enum Part {
+    Opens,
+    Seals,
+}
 
 // What node i needs in clear, which it opens where everything arrives sealed.
 fn opens_of(file: &[u8], h: Header, i: usize) -> u64
@@ -31,30 +38,42 @@ fn seals_of(file: &[u8], h: Header, i: usize) -> u64
     t.clear
 }
 
+// What node i opens, or what it seals.
+fn part_of(file: &[u8], h: Header, part: Part, i: usize) -> u64
+    requires { ⌜ i < 64 ⌝ }
+    ensures { λ r. ⌜ r ≡ partAt (nightIn (now (file .entry)) h) h part i ⌝ }
+{
+    match part {
+        Part::Opens => opens_of(file, h, i),
+        Part::Seals => seals_of(file, h, i),
+    }
+}
+
+// The same of every node.
+fn all_parts(file: &[u8], h: Header, part: Part) -> [u64; 64]
+    ensures { λ r. ⌜ r ≡ each 64 (partAt (nightIn (now (file .entry)) h) h part) ⌝ }
+{
+    let mut parts = [0u64; 64];
+    let mut i: usize = 0;
+    while i < 64 {
+        parts[i] = part_of(file, h, part, i);
+        i += 1;
+    }
+    parts
+}
+
 // What each node needs, which is what it opens in the plan of an accepted file; nothing past the last node.
 pub fn all_opens(file: &[u8], h: Header) -> [u64; 64]
     ensures { λ r. ⌜ r ≡ each 64 (λ i. nodeOf (nightIn (now (file .entry)) h) i .needed) ⌝ }
 {
-    let mut opens = [0u64; 64];
-    let mut i: usize = 0;
-    while i < 64 {
-        opens[i] = opens_of(file, h, i);
-        i += 1;
-    }
-    opens
+    all_parts(file, h, Part::Opens)
 }
 
 // What each node has in clear, but for the root: what it seals in the plan of an accepted file; nothing past the last node.
 pub fn all_seals(file: &[u8], h: Header) -> [u64; 64]
     ensures { λ r. ⌜ r ≡ each 64 (λ i. if eqb (i + 1) (h .nodes) then 0 else tableOf (nightIn (now (file .entry)) h) i .clear) ⌝ }
 {
-    let mut seals = [0u64; 64];
-    let mut i: usize = 0;
-    while i < 64 {
-        seals[i] = seals_of(file, h, i);
-        i += 1;
-    }
-    seals
+    all_parts(file, h, Part::Seals)
 }
 
 // The number of the last node, 0 where there is none.

@@ -9,7 +9,7 @@ ghost use Rattle.laws.specs.Choose.{if_then_else_};
 ghost use Rattle.laws.specs.Upwards.{each};
 ghost use Rattle.sets.specs.Sets.{member, union, meet, apart, single};
 ghost use Rattle.night.specs.Kinds.{attribute};
-ghost use Rattle.model.specs.Keys.{everSealed, keyName, holdersOf, keyHolders};
+ghost use Rattle.run.specs.Keys.{everSealed, keyName, holdersOf, keyHolders};
 ghost use Rattle.keying.specs.Nodes.{nodeEvents};
 
 // What stands at node i, nothing past the end.

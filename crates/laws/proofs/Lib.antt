@@ -2,6 +2,7 @@
 pub mod Cases
 pub mod First
 pub mod Trials
+pub mod Computed
 pub mod Upwards
 pub mod Front
 pub mod BigEndian

@@ -157,3 +157,30 @@ module _ (p : ℕ → Bool) (m : ℕ) where
   pub rows-stop : (n : ℕ) → first p n < n → verdict (rows n one) (tt {0}) ≡ refuses m (first p n)
   unfolding verdict
   rows-stop n l = rows-found one (first p n) n m (first p n) (rows-pass (first p n) (first-below p n)) (rw (first-holds p n l) refl) l
+
+-- what holds of number and place of every trial of a row
+abbrev pub AllTrials : (ℕ → ℕ → Type 0) → List Trial → Type 0
+AllTrials Q [] = Unit {0}
+AllTrials Q (t ∷ ts) = Q (t .number) (t .place) × AllTrials Q ts
+
+-- holds of the refusal
+pub all-refused : {A : Type 0} (Q : ℕ → ℕ → Type 0) (ts : List Trial) (a : A) (n p : ℕ) → AllTrials Q ts → verdict ts a ≡ refuses n p → Q n p
+unfolding verdict
+all-refused Q [] a n p q e = absurd (never a n p (sym e))
+all-refused Q (t ∷ ts) a n p q e = go (t .fails) e (all-refused Q ts a n p (q .1))
+  where
+    go : (x : Bool) → (if x then refuses (t .number) (t .place) else verdict ts a) ≡ refuses n p → (verdict ts a ≡ refuses n p → Q n p) → Q n p
+    go true h more =
+        let number : t .number ≡ n = cc in
+        let place : t .place ≡ p = cc in
+        rw (← number, ← place) (q .0)
+    go false h more = more h
+
+pub all-append : (Q : ℕ → ℕ → Type 0) (xs ys : List Trial) → AllTrials Q xs → AllTrials Q ys → AllTrials Q (xs ++ ys)
+all-append Q [] ys h g = g
+all-append Q (t ∷ xs) ys h g = (h .0, all-append Q xs ys (h .1) g)
+
+pub all-rows : (Q : ℕ → ℕ → Type 0) (f : ℕ → List Trial) (n : ℕ) → ((i : ℕ) → i < n → AllTrials Q (f i)) → AllTrials Q (rows n f)
+unfolding rows
+all-rows Q f zero h = tt
+all-rows Q f (suc n) h = all-append Q (rows n f) (f n) (all-rows Q f n (λ i l. h i (omega arith))) (h n (omega arith))

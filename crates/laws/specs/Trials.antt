@@ -50,3 +50,9 @@ RefusesExactly = (A : Type 0) (ts : List Trial) (a : A) (n p : ℕ) → (verdict
 -- a row accepts exactly when every trial passes
 abbrev pub AcceptsExactly : Type 1
 AcceptsExactly = (A : Type 0) (ts : List Trial) (a : A) → (verdict ts a ≡ answers a) ↔ Passes ts
+
+-- small rows: of two trials that fail the first refuses, with its own number and place; the trials of 0, 1 and 2 stand in this order
+pub record SmallRows : Type 0 where
+  pub first-refuses : verdict (trial false 1 2 ∷ trial true 3 4 ∷ trial true 5 6 ∷ []) (tt {0}) ≡ refuses 3 4
+  pub none-refuses : verdict (trial false 1 2 ∷ []) (tt {0}) ≡ answers tt
+  pub in-order : rows 3 (λ i. trial false i i ∷ []) ≡ trial false 0 0 ∷ trial false 1 1 ∷ trial false 2 2 ∷ []

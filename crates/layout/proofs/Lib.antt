@@ -1,4 +1,4 @@
 -- The laws of the layout.
 pub mod Sections
-pub mod Among
+mod Read
 mod Thin

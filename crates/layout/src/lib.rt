@@ -1,8 +1,6 @@
 // Where each value of a plan file stands, and how it is read out of the lent bytes.
 mod bytes;
-mod grants;
 pub mod opened;
 pub mod places;
 mod records;
 pub mod values;
-pub mod views;

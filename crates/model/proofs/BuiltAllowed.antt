@@ -17,12 +17,13 @@ use Rattle.model.specs.Ties.{Classes}
 use Rattle.model.specs.Tables.{shown, leastView, tableOf}
 use Rattle.model.specs.Candidates.{May, Candidate}
 use Rattle.model.specs.Choice.{Choice}
-use Rattle.model.specs.Keys.{Plan}
+use Rattle.run.specs.Keys.{Plan}
 use Rattle.model.specs.Plan.{built}
-use Rattle.model.specs.Run.{absent, clear, sealed, Held, Tested, Tied, keyOf, leaving, openedBy, resultOf, leftArrives, rightArrives, leftOpened, rightOpened, Forbidden, clear-column, clear-test, sealed-column, sealed-test, tied-apart}
+use Rattle.run.specs.Run.{absent, clear, sealed, Held, Tested, Tied, keyOf, leaving, openedBy, resultOf, leftArrives, rightArrives, leftOpened, rightOpened, Forbidden, clear-column, clear-test, sealed-column, sealed-test, tied-apart}
 use Rattle.model.proofs.Chains.{chain-low}
 use Rattle.model.proofs.Shown.{shown-visible, tests-read, step-tested, step-hidden}
-use Rattle.model.proofs.HeldLaws.{absent-clear, absent-sealed, sealed-clear, left-comes, right-comes, held-absent}
+use Rattle.run.proofs.Forms.{absent-clear, absent-sealed, sealed-clear}
+use Rattle.model.proofs.HeldLaws.{left-comes, right-comes, held-absent}
 use Rattle.model.proofs.PastLaws.{leaving-past, opened-by-past, leaf-untested, step-tested-past, past-classes}
 use Rattle.model.proofs.Sees.{Sees, may-sees}
 use Rattle.model.proofs.BuiltColumns.{formed, leaves-sealed, leaves-absent, opened-wanted, opened-absent, needed-clear, other-sealed}

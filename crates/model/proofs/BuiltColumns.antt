@@ -15,11 +15,12 @@ use Rattle.night.specs.Promised.{Promised}
 use Rattle.night.proofs.Visible.{OfOperand, operand-map, step-uses-left, visible-operand}
 use Rattle.model.specs.Tables.{tableOf}
 use Rattle.model.specs.Choice.{Choice}
-use Rattle.model.specs.Keys.{Plan}
+use Rattle.run.specs.Keys.{Plan}
 use Rattle.model.specs.Plan.{openings, sealings, built}
-use Rattle.model.specs.Run.{Form, absent, clear, sealed, Held, keyOf, sealedUnder, unsealed, beside, leaving, openedBy, together, resultOf, leftArrives, rightArrives, leftOpened, rightOpened, arrived, opened}
+use Rattle.run.specs.Run.{Form, absent, clear, sealed, Held, keyOf, sealedUnder, unsealed, beside, leaving, openedBy, together, resultOf, leftArrives, rightArrives, leftOpened, rightOpened, arrived, opened}
 use Rattle.model.proofs.Shown.{leaf-clear, step-clear}
-use Rattle.model.proofs.HeldLaws.{There, absent-clear, absent-sealed, left-comes, right-comes, right-none, step-column, leaf-column, held-absent}
+use Rattle.run.proofs.Forms.{absent-clear, absent-sealed}
+use Rattle.model.proofs.HeldLaws.{There, left-comes, right-comes, right-none, step-column, leaf-column, held-absent}
 use Rattle.model.proofs.KeyLaws.{ever, seals-ever}
 use Rattle.model.proofs.Built.{seals-clear, opens-needed}
 

@@ -16,22 +16,19 @@ use Rattle.night.specs.Night.{Night, nodeOf}
 use Rattle.night.specs.Kinds.{reads, readTogether, visible}
 use Rattle.night.specs.Promised.{Promised, AllOrNone}
 use Rattle.night.proofs.Visible.{OfOperand, operand-map, visible-below, reads-step, reads-operand}
-use Rattle.model.specs.Linked.{one}
+use Rattle.run.specs.Linked.{one}
 use Rattle.model.specs.Tables.{ties, tableOf}
 use Rattle.model.specs.Choice.{Choice}
-use Rattle.model.specs.Keys.{Plan}
+use Rattle.run.specs.Keys.{Plan}
 use Rattle.model.specs.Plan.{openings, sealings, built}
 use Rattle.model.specs.Demand.{Assigned}
-use Rattle.model.specs.Run.{clear, sealed, Some, keyOf, holders, resultOf, arrived, opened, AllAre, Stuck, seals-unclear, opens-unsealed, opens-unheld, needs-unclear, mixes}
+use Rattle.run.specs.Run.{clear, sealed, Some, keyOf, holders, resultOf, arrived, opened, AllAre, Stuck, seals-unclear, opens-unsealed, opens-unheld, needs-unclear, mixes}
+use Rattle.run.proofs.Forms.{same-sealed}
 use Rattle.model.proofs.Shown.{shown-visible}
 use Rattle.model.proofs.PastLaws.{some-listed}
 use Rattle.model.proofs.KeyLaws.{ever, same-key, opens-held}
 use Rattle.model.proofs.Built.{seals-clear, opens-needed}
 use Rattle.model.proofs.BuiltColumns.{leaves-ever, formed, came, needed-clear, other-sealed}
-
--- a key is known by what is sealed under it
-same-sealed : {j k : ℕ} → sealed j ≡ sealed k → j ≡ k
-same-sealed e = cc
 
 -- what is read together is all that is read
 together-reads : (v : Node) (m : ℕ) → Some (λ t. m ≡ t) (readTogether v) → m ≡ reads v

@@ -1,6 +1,6 @@
 -- Chains of ties, and that tying a set keeps for each attribute just what the chains link with it.
 use Prim.Native.Nat.{ℕ, zero, suc, _^_, _<_, _≤_}
-use mathlib.Core.Path.{_≡_, refl}
+use mathlib.Core.Path.{_≡_, refl, _∙_}
 use mathlib.Core.Bool.{Bool, true, false}
 use mathlib.Core.List.{List}
 use mathlib.Core.Logic.{_⊎_, inl, inr, ⊎-elim}
@@ -11,9 +11,10 @@ use lib.ListN.{getD, replicate}
 use borrow.Author.Tests.{ltb-true, ltb-false}
 use Rattle.laws.specs.Choose.{if_then_else_}
 use Rattle.laws.proofs.Upwards.{each-at, each-past}
-use Rattle.sets.specs.Sets.{In, member, union}
-use Rattle.sets.proofs.Members.{bit-beyond, member-in, in-member, not-member, in-union, in-none}
-use Rattle.model.specs.Linked.{Chain, one, step}
+use Rattle.sets.specs.Sets.{In, member, union, single}
+use Rattle.sets.proofs.Members.{bit-beyond, same-members, member-in, in-member, not-member, in-union, in-none}
+use Rattle.sets.proofs.Words.{in-single}
+use Rattle.run.specs.Linked.{Chain, one, step}
 use Rattle.model.specs.Ties.{untied, gathered, tie, Classes}
 
 -- chains join
@@ -111,6 +112,21 @@ module _ (t : List ℕ) (s i : ℕ) where
   tie-past : 64 ≤ i → getD (tie t s) i 0 ≡ 0
   unfolding tie
   tie-past l = each-past _ 0 i 64 l
+
+-- tying one attribute: it stands with what it was tied with before
+pub tie-single : (t : List ℕ) (a : ℕ) → a < 64 → getD (tie t (single 64 a)) a 0 ≡ union (single 64 a) (getD t a 0)
+tie-single t a l = tie-met t (single 64 a) a l (gathered-set t (single 64 a) 64 a own) ∙ same-members _ _ there back
+  where
+    own : In a (single 64 a)
+    own = in-single 64 a a .1 (refl, l)
+
+    there : (j : ℕ) → In j (gathered t (single 64 a) 64) → In j (union (single 64 a) (getD t a 0))
+    there j h =
+        in-union (single 64 a) (getD t a 0) j .1
+        (⊎-elim inl (λ w. inr (rw (in-single 64 (w .0) a .0 (w .1) .0) at (w .2))) (gathered-in t (single 64 a) 64 j h))
+
+    back : (j : ℕ) → In j (union (single 64 a) (getD t a 0)) → In j (gathered t (single 64 a) 64)
+    back j h = ⊎-elim (gathered-set t (single 64 a) 64 j) (gathered-met t (single 64 a) 64 j a l own) (in-union (single 64 a) (getD t a 0) j .0 h)
 
 module _ (T : ℕ → Type 0) (t : List ℕ) (s : ℕ) (C : Classes T t) (low : s < 2 ^ 64) where
   abbrev Tied : ℕ → Type 0

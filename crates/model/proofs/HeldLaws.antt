@@ -15,8 +15,8 @@ use Rattle.night.specs.Night.{Night, nodeOf}
 use Rattle.night.specs.Kinds.{usesLeft, usesRight, visible}
 use Rattle.night.specs.Promised.{Promised}
 use Rattle.night.proofs.Visible.{OfOperand, operand-map, step-uses-left, visible-leaf, visible-operand}
-use Rattle.model.specs.Keys.{Plan}
-use Rattle.model.specs.Run.{Form, absent, clear, sealed, Held, sealedUnder, unsealed, beside, nothing, keyOf, leaving, openedBy, together, leafHeld, resultOver, arriving, heldStep, helds, resultOf, leftArrives, rightArrives, leftOpened, rightOpened, opened}
+use Rattle.run.specs.Keys.{Plan}
+use Rattle.run.specs.Run.{Form, absent, clear, sealed, Held, sealedUnder, unsealed, beside, nothing, keyOf, leaving, openedBy, together, leafHeld, resultOver, arriving, heldStep, helds, resultOf, leftArrives, rightArrives, leftOpened, rightOpened, opened}
 
 module _ (N : Night) (p : Plan) where
   -- node i's table, from those of the nodes before it
@@ -58,16 +58,6 @@ module _ (N : Night) (p : Plan) where
   pub right-none : (i : ℕ) → usesRight (nodeOf N i .kind) ≡ false → rightArrives N p i ≡ nothing
   unfolding rightArrives arriving
   right-none i u = rw u refl
-
--- forms are told apart
-pub absent-clear : absent ≡ clear → ⊥
-absent-clear e = let z : _≡_ {A = ℕ} 0 1 = cc in omega arith
-
-pub absent-sealed : {key : ℕ} → absent ≡ sealed key → ⊥
-absent-sealed e = let z : _≡_ {A = ℕ} 0 1 = cc in omega arith
-
-pub sealed-clear : {key : ℕ} → sealed key ≡ clear → ⊥
-sealed-clear e = let z : _≡_ {A = ℕ} 0 1 = cc in omega arith
 
 -- a column is there
 abbrev pub There : Form → Type 0

@@ -14,9 +14,9 @@ use Rattle.sets.proofs.Words.{in-single, lowest-in, members-lt}
 use Rattle.night.specs.Night.{Night}
 use Rattle.night.specs.Kinds.{attribute}
 use Rattle.night.specs.Promised.{Promised}
-use Rattle.model.specs.Linked.{Chain}
-use Rattle.model.specs.Keys.{Plan, Event, events, everSealed, groupOf, keyName, holdersOf, keyHolders}
-use Rattle.model.specs.Run.{Some, reached, keyOf, holders}
+use Rattle.run.specs.Linked.{Chain}
+use Rattle.run.specs.Keys.{Plan, Event, events, everSealed, groupOf, keyName, holdersOf, keyHolders}
+use Rattle.run.specs.Run.{Some, reached, keyOf, holders}
 use Rattle.model.proofs.Chains.{chain-join, chain-back, chain-low}
 use Rattle.model.proofs.PastLaws.{some-append}
 use Rattle.model.proofs.Reached.{TiedBelow, tied-low, reached-exactly}

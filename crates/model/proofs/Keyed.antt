@@ -8,7 +8,7 @@ use Rattle.laws.specs.Choose.{if_then_else_}
 use Rattle.laws.specs.Upwards.{upwards, each}
 use Rattle.sets.specs.Sets.{union, apart, single, unions}
 use Rattle.sets.proofs.Members.{bit-union}
-use Rattle.model.specs.Keys.{Event, everSealed, holdersOf}
+use Rattle.run.specs.Keys.{Event, everSealed, holdersOf}
 use Rattle.model.proofs.TableLaws.{same-bits, union-none}
 
 union-assoc : (a b c : ℕ) → union (union a b) c ≡ union a (union b c)

@@ -13,12 +13,12 @@ use Rattle.night.specs.Night.{Night, nodeOf}
 use Rattle.night.specs.Kinds.{attribute}
 use Rattle.night.specs.Promised.{Promised}
 use Rattle.night.proofs.Children.{is-child}
-use Rattle.model.specs.Linked.{Chain}
+use Rattle.run.specs.Linked.{Chain}
 use Rattle.model.specs.Ties.{Classes}
 use Rattle.model.specs.Tables.{tableOf, TiedAt, here, under-left, under-right}
-use Rattle.model.specs.Keys.{Plan, Event, groupOf, keyName, keyHolders}
+use Rattle.run.specs.Keys.{Plan, Event, groupOf, keyName, keyHolders}
 use Rattle.model.specs.Plan.{rootTied, nameIn, holdersIn}
-use Rattle.model.specs.Run.{Tied, reached, keyOf, holders, resultOf}
+use Rattle.run.specs.Run.{Tied, reached, keyOf, holders, resultOf}
 use Rattle.model.specs.Demand.{KeysAgree, ReachedMeaning}
 use Rattle.model.proofs.Chains.{chain-map}
 use Rattle.model.proofs.Meaning.{tied-meaning}

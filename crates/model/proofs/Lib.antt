@@ -6,6 +6,7 @@ pub mod TableLaws
 pub mod Meaning
 pub mod Kept
 pub mod Once
+pub mod Computed
 pub mod Parents
 pub mod Lowest
 pub mod Follows

@@ -9,7 +9,7 @@ use lib.ListN.{getD}
 use Rattle.sets.specs.Sets.{In, meet, below}
 use Rattle.sets.proofs.Members.{same-members, in-meet}
 use Rattle.sets.proofs.Words.{in-below, below-lt, meet-lt}
-use Rattle.model.specs.Linked.{Chain, one}
+use Rattle.run.specs.Linked.{Chain, one}
 use Rattle.model.specs.Ties.{merged, Classes}
 use Rattle.model.proofs.Chains.{chain-join, chain-back, chain-through, chain-map, chain-low, chain-classes, same-classes, tie-classes}
 

@@ -15,10 +15,10 @@ use Rattle.night.specs.Night.{Night, nodeOf}
 use Rattle.night.specs.Kinds.{usesLeft, usesRight, attribute, reads, readTogether}
 use Rattle.night.specs.Promised.{Promised}
 use Rattle.night.proofs.Visible.{OfOperand, step-uses-left}
-use Rattle.model.specs.Keys.{Plan}
+use Rattle.run.specs.Keys.{Plan}
 use Rattle.model.specs.Ties.{Classes}
 use Rattle.model.specs.Tables.{tableOf, tests, ties, Listed, TiedAt, here, under-left, under-right}
-use Rattle.model.specs.Run.{Form, absent, Past, Held, testedBy, tiedBy, Some, Tested, Tied, leaving, openedBy, together, leafHeld, resultOver, resultOf, leftOpened, rightOpened, opened}
+use Rattle.run.specs.Run.{Form, absent, Past, Held, testedBy, tiedBy, Some, Tested, Tied, leaving, openedBy, together, leafHeld, resultOver, resultOf, leftOpened, rightOpened, opened}
 use Rattle.model.proofs.Shown.{tests-read}
 use Rattle.model.proofs.Lowest.{clash}
 use Rattle.model.proofs.Chains.{same-classes}

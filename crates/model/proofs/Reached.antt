@@ -15,9 +15,9 @@ use Rattle.sets.proofs.Words.{in-single, single-lt, union-lt, not-apart, count-
 use Rattle.night.specs.Night.{Night, nodeOf}
 use Rattle.night.specs.Kinds.{attribute}
 use Rattle.night.specs.Promised.{Promised}
-use Rattle.model.specs.Linked.{Chain, one, step}
+use Rattle.run.specs.Linked.{Chain, one, step}
 use Rattle.model.specs.Tables.{ties, Listed, here}
-use Rattle.model.specs.Run.{spreadOver, spread, spreadTimes, reached}
+use Rattle.run.specs.Run.{spreadOver, spread, spreadTimes, reached}
 use Rattle.model.proofs.Chains.{chain-low, chain-join}
 use Rattle.model.proofs.Meaning.{tied-meaning}
 use Rattle.model.proofs.PastLaws.{same-ties}

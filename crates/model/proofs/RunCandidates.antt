@@ -18,12 +18,13 @@ use Rattle.model.specs.declared.Table.{Table}
 use Rattle.model.specs.Ties.{Classes}
 use Rattle.model.specs.Tables.{shown, leastView, tests, tableOf}
 use Rattle.model.specs.Candidates.{May, Candidate}
-use Rattle.model.specs.Keys.{Plan}
+use Rattle.run.specs.Keys.{Plan}
 use Rattle.model.specs.Demand.{Assigned, FromCandidates}
-use Rattle.model.specs.Run.{Form, absent, clear, sealed, Held, Tested, Tied, unsealed, beside, openedBy, together, resultOf, leftOpened, rightOpened, opened, Stuck, needs-unclear, Forbidden, clear-column, clear-test, sealed-column, sealed-test, tied-apart, Clean}
+use Rattle.run.specs.Run.{Form, absent, clear, sealed, Held, Tested, Tied, unsealed, beside, openedBy, together, resultOf, leftOpened, rightOpened, opened, Stuck, needs-unclear, Forbidden, clear-column, clear-test, sealed-column, sealed-test, tied-apart, left-opened, right-opened, result-made, Clean}
 use Rattle.model.proofs.May.{set-exactly}
 use Rattle.model.proofs.Shown.{shown-visible, tests-read, leaf-tested, leaf-hidden, step-clear, step-sealed, step-tested, step-hidden}
-use Rattle.model.proofs.HeldLaws.{There, absent-clear, sealed-clear, right-none, left-there, right-there, held-there, operand-there}
+use Rattle.run.proofs.Forms.{absent-clear, sealed-clear}
+use Rattle.model.proofs.HeldLaws.{There, right-none, left-there, right-there, held-there, operand-there}
 use Rattle.model.proofs.PastLaws.{left-past, right-past, step-tested-past, past-classes}
 use Rattle.model.proofs.Sees.{sees-may}
 
@@ -148,15 +149,25 @@ module _ (N : Night) (p : Plan) (sound : Promised N) (clean : Clean N p) (i : �
   abbrev uses : usesLeft (nodeOf N i .kind) ≡ true
   uses = step-uses-left (nodeOf N i .kind) s
 
+  -- its operands after opening and its result aren't forbidden to its subject
+  left-fine : Forbidden N (leftOpened N p i) P E → ⊥
+  left-fine f = clean .allowed i l (left-opened uses f)
+
+  right-fine : usesRight (nodeOf N i .kind) ≡ true → Forbidden N (rightOpened N p i) P E → ⊥
+  right-fine u f = clean .allowed i l (right-opened u f)
+
+  result-fine : Forbidden N (resultOf N p i) P E → ⊥
+  result-fine f = clean .allowed i l (result-made s f)
+
   -- the step's subject sees in clear what it needs
   needed-seen : Within (nodeOf N i .needed) P
   unfolding opened together
   needed-seen a h =
-      ⊎-elim (column-seen N (leftOpened N p i) P E (clean .left-opened i l uses) a) (right (usesRight (nodeOf N i .kind)) refl)
+      ⊎-elim (column-seen N (leftOpened N p i) P E left-fine a) (right (usesRight (nodeOf N i .kind)) refl)
       (one-clear (leftOpened N p i .column a) (rightOpened N p i .column a) (needed-opened N p sound (clean .free) i a l h))
     where
       right : (b : Bool) → usesRight (nodeOf N i .kind) ≡ b → rightOpened N p i .column a ≡ clear → In a P
-      right true u e = column-seen N (rightOpened N p i) P E (clean .right-opened i l u) a e
+      right true u e = column-seen N (rightOpened N p i) P E (right-fine u) a e
       right false u e = absurd (absent-clear (sym (no-right N p i a u) ∙ e))
 
   -- so it may have an operand's least view, where that isn't forbidden to it after opening
@@ -174,7 +185,7 @@ module _ (N : Night) (p : Plan) (sound : Promised N) (clean : Clean N p) (i : �
       less-may N p sound (clean .free) i l (resultOf N p i) (tableOf N i) P E refl refl refl refl
       (λ a x. needed-seen a (in-meet (nodeOf N i .needed) (visible N i) a .0 (rw (step-clear N sound i l s) at x) .0))
       (λ a x. held-there N p sound i a l (in-minus (visible N i) (nodeOf N i .needed) a .0 (rw (step-sealed N sound i l s) at x) .0))
-      (clean .result i l s)
+      result-fine
 
   candidate : Candidate N i P E
   candidate =
@@ -182,10 +193,10 @@ module _ (N : Night) (p : Plan) (sound : Promised N) (clean : Clean N p) (i : �
         step = s;
         left =
             least-may (nodeOf N i .left) (omega (arith, sound .node i l .left-lower uses)) (leftOpened N p i) (left-past N p i s)
-            (left-there N p sound i s) (clean .left-opened i l uses);
+            (left-there N p sound i s) left-fine;
         right = λ u.
             least-may (nodeOf N i .right) (omega (arith, sound .node i l .right-lower u)) (rightOpened N p i) (right-past N p i u)
-            (λ a. right-there N p sound i s a u) (clean .right-opened i l u);
+            (λ a. right-there N p sound i s a u) (right-fine u);
         result = result-may;
       }
 

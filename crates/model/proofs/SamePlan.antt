@@ -11,11 +11,11 @@ use Rattle.sets.specs.Sets.{member}
 use Rattle.night.specs.Night.{Night, nodeOf}
 use Rattle.night.specs.Kinds.{usesLeft, usesRight}
 use Rattle.night.specs.Promised.{Promised}
-use Rattle.model.specs.Keys.{Plan, Event, events}
+use Rattle.run.specs.Keys.{Plan, Event, events}
 use Rattle.model.specs.Choice.{Choice}
 use Rattle.model.specs.Plan.{built, nameIn, holdersIn, planRoom, keysRoom}
 use Rattle.model.proofs.Turns.{turn-same}
-use Rattle.model.specs.Run.{Held, keyOf, holders, sealedUnder, nothing, leaving, openedBy, arriving, heldStep, helds, resultOf, leftArrives, rightArrives, leftOpened, rightOpened, arrived, opened, Stuck, seals-unclear, opens-unsealed, opens-unheld, needs-unclear, mixes, Clean}
+use Rattle.run.specs.Run.{Held, keyOf, holders, sealedUnder, nothing, leaving, openedBy, arriving, heldStep, helds, resultOf, leftArrives, rightArrives, leftOpened, rightOpened, arrived, opened, Stuck, seals-unclear, opens-unsealed, opens-unheld, needs-unclear, mixes, ForbiddenAt, left-arrives, right-arrives, left-opened, right-opened, result-made, Clean}
 
 -- the same subject, openings and sealings at every node
 pub record Alike (N : Night) (p q : Plan) : Type 0 where
@@ -122,16 +122,16 @@ module _ (N : Night) (p q : Plan) (alike : Alike N p q) where
     stuck-same i l (needs-unclear a h u) = needs-unclear a h (rw (opened-same i l) u)
     stuck-same i l (mixes m h u v) = mixes m h (rw (opened-same i l) u) (rw (opened-same i l) v)
 
+    -- and forbidden at the same nodes
+    forbidden-same : (i : ℕ) → i < n → ForbiddenAt N q i → ForbiddenAt N p i
+    forbidden-same i l (left-arrives u f) = left-arrives u (rw (alike .subject i l, left-same i l) f)
+    forbidden-same i l (right-arrives u f) = right-arrives u (rw (alike .subject i l, right-same i l) f)
+    forbidden-same i l (left-opened u f) = left-opened u (rw (alike .subject i l, left-opened-same i l) f)
+    forbidden-same i l (right-opened u f) = right-opened u (rw (alike .subject i l, right-opened-same i l) f)
+    forbidden-same i l (result-made s f) = result-made s (rw (alike .subject i l, result-same i) f)
+
     pub clean-same : Clean N p → Clean N q
-    clean-same c =
-        record {
-          free = λ i l h. c .free i l (stuck-same i l h);
-          left-arrives = λ i l u. rw (← alike .subject i l, ← left-same i l) (c .left-arrives i l u);
-          right-arrives = λ i l u. rw (← alike .subject i l, ← right-same i l) (c .right-arrives i l u);
-          left-opened = λ i l u. rw (← alike .subject i l, ← left-opened-same i l) (c .left-opened i l u);
-          right-opened = λ i l u. rw (← alike .subject i l, ← right-opened-same i l) (c .right-opened i l u);
-          result = λ i l s. rw (← alike .subject i l, ← result-same i) (c .result i l s);
-        }
+    clean-same c = record { free = λ i l h. c .free i l (stuck-same i l h); allowed = λ i l h. c .allowed i l (forbidden-same i l h) }
 
 -- the plans that are built for choices that are the same at every node
 pub built-alike : (N : Night) (c d : Choice) → ((i : ℕ) → i < N .header .nodes → c i ≡ d i) → Alike N (built N c) (built N d)

@@ -18,8 +18,9 @@ use Rattle.night.specs.declared.Node.{Node}
 use Rattle.night.specs.Night.{Night, nodeOf}
 use Rattle.night.specs.Kinds.{attribute, reads, readTogether, usesRight, visibleAfter}
 use Rattle.model.specs.declared.Table.{Table}
+use Rattle.model.proofs.Chains.{tie-single}
 use Rattle.model.specs.Ties.{gathered, tie, merged}
-use Rattle.model.specs.Tables.{blank, shown, leastView, tests, ties, tieAll, joined, result, leafTable, stepTable, tableStep, tables, tableOf}
+use Rattle.model.specs.Tables.{blank, shown, leastView, tests, ties, tieAll, joined, result, leafTable, stepTable, FunctionTies, tableStep, tables, tableOf}
 
 -- one attribute more is gathered
 pub gathered-none : (t : List ℕ) (s : ℕ) → gathered t s 0 ≡ s
@@ -40,18 +41,13 @@ unfolding merged
 merged-more t u n = rw add-one refl
 
 -- what a step ties, by its kind
-pub tie-all : (t : List ℕ) (v : Node)
-    → tieAll t (ties v) ≡ (if eqb (v .kind) 3 then tie t (reads v) else if eqb (v .kind) 5 then tie t (reads v) else if eqb (v .kind) 8 then tie t (reads v) else t)
-unfolding ties readTogether
-tie-all t v = go (eqb (v .kind) 3) (eqb (v .kind) 5) (eqb (v .kind) 8)
+pub tie-together : (t : List ℕ) (v : Node) (b : Bool) → readTogether v ≡ (if b then reads v ∷ [] else []) → tieAll t (ties v) ≡ (if b then tie t (reads v) else t)
+unfolding ties
+tie-together t v b e = rw e (go b)
   where
-    go : (a b c : Bool)
-        → tieAll t (if a then reads v ∷ [] else if b then reads v ∷ [] else if c then reads v ∷ [] else [])
-        ≡ (if a then tie t (reads v) else if b then tie t (reads v) else if c then tie t (reads v) else t)
-    go true b c = refl
-    go false true c = refl
-    go false false true = refl
-    go false false false = refl
+    go : (x : Bool) → tieAll t (if x then reads v ∷ [] else []) ≡ (if x then tie t (reads v) else t)
+    go true = refl
+    go false = refl
 
 -- sets
 pub meet-none : (a : ℕ) → meet 0 a ≡ 0
@@ -237,3 +233,8 @@ module _ (N : Night) (i : ℕ) (known : i < N .header .nodes) (left-lower : node
       }
   unfolding stepTable result tests ties reads readTogether visibleAfter usesRight anyOf
   table-function e = one-operand 7 e ∙ rw (e, ← all-stays) (simp (meet-none, union-none))
+
+-- a user function over one attribute
+pub function-ties : FunctionTies
+unfolding stepTable result leastView ties readTogether reads usesRight anyOf
+function-ties v a l r low e s = rw (e, s) (tie-single (l .tied) a low)

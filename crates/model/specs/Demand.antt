@@ -6,12 +6,12 @@ use Rattle.sets.specs.Sets.{In}
 use Rattle.night.specs.Night.{Night, nodeOf}
 use Rattle.night.specs.Kinds.{attribute}
 use Rattle.night.specs.Promised.{Promised}
-use Rattle.model.specs.Linked.{Chain}
+use Rattle.run.specs.Linked.{Chain}
 use Rattle.model.specs.Candidates.{candidateSet}
 use Rattle.model.specs.Choice.{Choice, ownerOf}
-use Rattle.model.specs.Keys.{Plan}
+use Rattle.run.specs.Keys.{Plan}
 use Rattle.model.specs.Plan.{built, nameIn, holdersIn}
-use Rattle.model.specs.Run.{Tied, Clean, reached, keyOf, holders, resultOf}
+use Rattle.run.specs.Run.{Tied, Clean, reached, keyOf, holders, resultOf}
 
 -- a subject for each node, and the owners at the leaves
 pub record Assigned (N : Night) (c : Choice) : Type 0 where

@@ -11,7 +11,7 @@ use Rattle.night.specs.Night.{Night, nodeOf}
 use Rattle.night.specs.Kinds.{usesLeft, usesRight, visible}
 use Rattle.night.specs.Promised.{Promised}
 use Rattle.model.specs.Tables.{tableOf}
-use Rattle.model.specs.Keys.{Plan, events, keyName, keyHolders}
+use Rattle.run.specs.Keys.{Plan, events, keyName, keyHolders}
 
 -- what leaves node k sealed, for given sealings, where `before` has what is sealed in the results of the nodes
 unfoldable pub leavesSealed : Night → (ℕ → ℕ) → List ℕ → ℕ → ℕ

@@ -11,7 +11,7 @@ use Rattle.laws.specs.Upwards.{upwards}
 use Rattle.sets.specs.Sets.{In, Within, union, meet, minus}
 use Rattle.night.specs.declared.Node.{Node}
 use Rattle.night.specs.Night.{Night, nodeOf}
-use Rattle.night.specs.Kinds.{usesLeft, usesRight, attribute, readTogether, visibleAfter}
+use Rattle.night.specs.Kinds.{aLeaf, aSelect, anAggregate, aCount, usesLeft, usesRight, attribute, readTogether, visibleAfter}
 use Rattle.night.specs.Promised.{Promised}
 use Rattle.model.specs.declared.Table.{Table}
 use Rattle.model.specs.Ties.{untied, tie, merged, Classes}
@@ -38,9 +38,9 @@ leastView needed t =
 -- what the step adds to the implicit part: kind 2 its x, kinds 6 and 7 each attribute of their set
 unfoldable pub tests : Node → ℕ
 tests v =
-    if eqb (v .kind) 2 then attribute (v .x) else
-    if eqb (v .kind) 6 then v .set else
-    if eqb (v .kind) 7 then v .set else
+    if eqb (v .kind) aSelect then attribute (v .x) else
+    if eqb (v .kind) anAggregate then v .set else
+    if eqb (v .kind) aCount then v .set else
     0
 
 -- the sets that the step ties: x and y of kinds 3 and 5, the set of kind 8
@@ -85,10 +85,16 @@ stepTable v l r =
     result v (visibleAfter v (shown l) (shown r))
     (if usesRight (v .kind) then joined (leastView (v .needed) l) (leastView (v .needed) r) else leastView (v .needed) l)
 
+-- a user function over {a} ties {a}, whatever its operand shows and ties: a's tied set is {a} with what a was tied with before
+abbrev pub FunctionTies : Type 0
+FunctionTies =
+    (v : Node) (a : ℕ) (l r : Table) → a < 64 → v .kind ≡ 8 → v .set ≡ attribute a
+    → getD (stepTable v l r .tied) a 0 ≡ union (attribute a) (getD (l .tied) a 0)
+
 -- node i's table from those of the nodes before it; an operand that is not lower counts as blank
 unfoldable pub tableStep : Night → List Table → ℕ → Table
 tableStep N before i =
-    if eqb (nodeOf N i .kind) 0 then leafTable (nodeOf N i) else
+    if eqb (nodeOf N i .kind) aLeaf then leafTable (nodeOf N i) else
     stepTable (nodeOf N i) (getD before (nodeOf N i .left) blank) (getD before (nodeOf N i .right) blank)
 
 -- the tables of all nodes, worked out upwards

@@ -5,7 +5,7 @@ use lib.ListN.{getD, replicate}
 use Rattle.laws.specs.Choose.{if_then_else_}
 use Rattle.laws.specs.Upwards.{each}
 use Rattle.sets.specs.Sets.{In, member, union}
-use Rattle.model.specs.Linked.{Chain}
+use Rattle.run.specs.Linked.{Chain}
 
 -- nothing is tied
 abbrev pub untied : List ℕ

@@ -11,27 +11,54 @@ use Rattle.sets.specs.Sets.{union, minus, single}
 use Rattle.night.specs.declared.Node.{Node}
 use Rattle.night.specs.Night.{Night, nodeOf}
 
--- 0 leaf, 1 project, 2 select attribute with value, 3 select attribute with attribute, 4 product, 5 join,
--- 6 group and aggregate, 7 group and count, 8 user function
+-- the kinds: leaf, project, select attribute with value, select attribute with attribute, product, join, group and aggregate, group and
+-- count, user function
+abbrev pub aLeaf : ℕ
+aLeaf = 0
+
+abbrev pub aProject : ℕ
+aProject = 1
+
+abbrev pub aSelect : ℕ
+aSelect = 2
+
+abbrev pub aCompare : ℕ
+aCompare = 3
+
+abbrev pub aProduct : ℕ
+aProduct = 4
+
+abbrev pub aJoin : ℕ
+aJoin = 5
+
+abbrev pub anAggregate : ℕ
+anAggregate = 6
+
+abbrev pub aCount : ℕ
+aCount = 7
+
+abbrev pub aFunction : ℕ
+aFunction = 8
+
 -- a left operand: every kind but the leaf
 unfoldable pub usesLeft : ℕ → Bool
-usesLeft kind = not (eqb kind 0)
+usesLeft kind = not (eqb kind aLeaf)
 
 -- a right operand: product, join
 unfoldable pub usesRight : ℕ → Bool
-usesRight kind = anyOf (eqb kind 4 ∷ eqb kind 5 ∷ [])
+usesRight kind = anyOf (eqb kind aProduct ∷ eqb kind aJoin ∷ [])
 
 -- x: the leaf's relation; the attribute of both selects, join, group and aggregate, user function
 unfoldable pub usesX : ℕ → Bool
-usesX kind = anyOf (eqb kind 0 ∷ eqb kind 2 ∷ eqb kind 3 ∷ eqb kind 5 ∷ eqb kind 6 ∷ eqb kind 8 ∷ [])
+usesX kind = anyOf (eqb kind aLeaf ∷ eqb kind aSelect ∷ eqb kind aCompare ∷ eqb kind aJoin ∷ eqb kind anAggregate ∷ eqb kind aFunction ∷ [])
 
 -- y: the second attribute of the second select and of join
 unfoldable pub usesY : ℕ → Bool
-usesY kind = anyOf (eqb kind 3 ∷ eqb kind 5 ∷ [])
+usesY kind = anyOf (eqb kind aCompare ∷ eqb kind aJoin ∷ [])
 
 -- the set: leaf, project, both groups, user function
 unfoldable pub usesSet : ℕ → Bool
-usesSet kind = anyOf (eqb kind 0 ∷ eqb kind 1 ∷ eqb kind 6 ∷ eqb kind 7 ∷ eqb kind 8 ∷ [])
+usesSet kind = anyOf (eqb kind aLeaf ∷ eqb kind aProject ∷ eqb kind anAggregate ∷ eqb kind aCount ∷ eqb kind aFunction ∷ [])
 
 -- an attribute's number as a set
 abbrev pub attribute : ℕ → ℕ
@@ -40,34 +67,34 @@ attribute x = single 64 x
 -- what the node reads
 unfoldable pub reads : Node → ℕ
 reads v =
-    if eqb (v .kind) 2 then attribute (v .x) else
-    if eqb (v .kind) 3 then union (attribute (v .x)) (attribute (v .y)) else
-    if eqb (v .kind) 5 then union (attribute (v .x)) (attribute (v .y)) else
-    if eqb (v .kind) 6 then union (v .set) (attribute (v .x)) else
-    if eqb (v .kind) 7 then v .set else
-    if eqb (v .kind) 8 then v .set else
+    if eqb (v .kind) aSelect then attribute (v .x) else
+    if eqb (v .kind) aCompare then union (attribute (v .x)) (attribute (v .y)) else
+    if eqb (v .kind) aJoin then union (attribute (v .x)) (attribute (v .y)) else
+    if eqb (v .kind) anAggregate then union (v .set) (attribute (v .x)) else
+    if eqb (v .kind) aCount then v .set else
+    if eqb (v .kind) aFunction then v .set else
     0
 
 -- the sets that it reads together, each of which is all clear or all sealed: all that kinds 3, 5 and 8 read
 unfoldable pub readTogether : Node → List ℕ
 readTogether v =
-    if eqb (v .kind) 3 then reads v ∷ [] else
-    if eqb (v .kind) 5 then reads v ∷ [] else
-    if eqb (v .kind) 8 then reads v ∷ [] else
+    if eqb (v .kind) aCompare then reads v ∷ [] else
+    if eqb (v .kind) aJoin then reads v ∷ [] else
+    if eqb (v .kind) aFunction then reads v ∷ [] else
     []
 
 -- what is visible after the node, where `left` and `right` are visible in its operands
 unfoldable pub visibleAfter : Node → ℕ → ℕ → ℕ
 visibleAfter v left right =
-    if eqb (v .kind) 0 then v .set else
-    if eqb (v .kind) 1 then v .set else
-    if eqb (v .kind) 2 then left else
-    if eqb (v .kind) 3 then left else
-    if eqb (v .kind) 4 then union left right else
-    if eqb (v .kind) 5 then union left right else
-    if eqb (v .kind) 6 then union (v .set) (attribute (v .x)) else
-    if eqb (v .kind) 7 then v .set else
-    if eqb (v .kind) 8 then union (minus left (v .set)) (attribute (v .x)) else
+    if eqb (v .kind) aLeaf then v .set else
+    if eqb (v .kind) aProject then v .set else
+    if eqb (v .kind) aSelect then left else
+    if eqb (v .kind) aCompare then left else
+    if eqb (v .kind) aProduct then union left right else
+    if eqb (v .kind) aJoin then union left right else
+    if eqb (v .kind) anAggregate then union (v .set) (attribute (v .x)) else
+    if eqb (v .kind) aCount then v .set else
+    if eqb (v .kind) aFunction then union (minus left (v .set)) (attribute (v .x)) else
     0
 
 -- the same of node i, from what is visible after the nodes before it

@@ -1,5 +1,6 @@
 -- What a subject sees.
-use Prim.Native.Nat.{ℕ}
+use Prim.Native.Nat.{ℕ, _<_, _≤_}
+use mathlib.Core.Path.{_≡_}
 use mathlib.Core.Bool.{Bool, false}
 use lib.Dec.{eqb, ltb}
 use Rattle.laws.specs.Choose.{if_then_else_}
@@ -31,6 +32,22 @@ viewOf N p r =
     if ltb (grantFor N r p) (N .header .grants) then seenBy (grantOf N (grantFor N r p)) else
     if ltb (grantFor N r anySubject) (N .header .grants) then seenBy (grantOf N (grantFor N r anySubject)) else
     record { clear = 0; sealed = 0 }
+
+-- an own grant replaces any entirely: whatever is granted to any, the view is what the own grant says
+abbrev pub OwnReplaces : Type 0
+OwnReplaces = (N : Night) (p r : ℕ) → grantFor N r p < N .header .grants → viewOf N p r ≡ seenBy (grantOf N (grantFor N r p))
+
+-- or else any serves
+abbrev pub AnyServes : Type 0
+AnyServes =
+    (N : Night) (p r : ℕ) → N .header .grants ≤ grantFor N r p → grantFor N r anySubject < N .header .grants
+    → viewOf N p r ≡ seenBy (grantOf N (grantFor N r anySubject))
+
+-- or else nothing is seen
+abbrev pub NothingSeen : Type 0
+NothingSeen =
+    (N : Night) (p r : ℕ) → N .header .grants ≤ grantFor N r p → N .header .grants ≤ grantFor N r anySubject
+    → viewOf N p r ≡ record { clear = 0; sealed = 0 }
 
 -- P and E: what the subject sees in clear, and sealed, over all relations
 unfoldable pub clearOf : Night → ℕ → ℕ

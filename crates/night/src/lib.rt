@@ -46,3 +46,25 @@ pub struct View {
     pub clear: u64,
     pub sealed: u64,
 }
+
+// The kinds of node.
+pub const LEAF: u8 = 0;
+
+pub const PROJECT: u8 = 1;
+
+pub const SELECT_VALUE: u8 = 2;
+
+pub const SELECT_ATTRIBUTE: u8 = 3;
+
+pub const PRODUCT: u8 = 4;
+
+pub const JOIN: u8 = 5;
+
+pub const AGGREGATE: u8 = 6;
+
+pub const COUNT: u8 = 7;
+
+pub const FUNCTION: u8 = 8;
+
+// The most grants that a file may have.
+pub const MOST_GRANTS: u16 = 272;

@@ -15,15 +15,14 @@ use Rattle.night.specs.Promised.{Promised}
 use Rattle.layout.specs.Layout.{headerOf, nightIn, nightOf}
 use Rattle.model.specs.Candidates.{candidateSet}
 use Rattle.model.specs.Choice.{total}
-use Rattle.model.specs.Refusals.{candidateTrials, stepsTrials, offerTrials}
+use Rattle.verdicts.specs.Refusals.{candidateTrials, stepsTrials, offerTrials, cheapestTrials, offeredTrials, Rooms, cheapestPlanTrials, offeredPlanTrials}
 use Rattle.model.proofs.May.{set-exactly}
-use Rattle.reading.specs.Trials.{trials}
-use Rattle.reading.specs.Answers.{checkOf}
-use Rattle.reading.proofs.Opened.{accepted-header}
-use Rattle.reading.proofs.Promises.{accepted-promises}
-use Rattle.choosing.specs.Answers.{cheapestTrials, ChoiceSays, offeredTrials, offeredOf}
+use Rattle.trials.specs.Trials.{trials, checkOf}
+use Rattle.trials.proofs.Opened.{accepted-header}
+use Rattle.trials.proofs.Promises.{accepted-promises}
+use Rattle.choosing.specs.Answers.{ChoiceSays, offeredOf}
 use Rattle.choosing.specs.declared.Cheapest.the-variants.{Found, Refused as NotFound}
-use Rattle.planning.specs.Answers.{candidatesOf, CandidatesExactly, CandidatesOnce, NoneElsewhere, Rooms, Filled, cheapestPlanTrials, CheapestSays, offeredPlanTrials, OfferedSays}
+use Rattle.planning.specs.Answers.{candidatesOf, CandidatesExactly, CandidatesOnce, NoneElsewhere, Filled, CheapestSays, OfferedSays}
 use Rattle.planning.specs.declared.CandidateSet.the-variants.{Among, Refused}
 use Rattle.planning.specs.declared.CheapestPlan.the-variants.{Cheapest, Refused as NoCheapest}
 use Rattle.planning.specs.declared.OfferedPlan.the-variants.{Offered, Refused as NoOffered}

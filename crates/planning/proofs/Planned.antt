@@ -1,17 +1,17 @@
 -- What the plan's and the keys' arrays hold is the built plan for the choice.
-use Prim.Native.Nat.{ℕ, _+_, _-_, _<_}
+use Prim.Native.Nat.{ℕ, _+_, _-_, _*_, _<_}
 use mathlib.Core.Path.{_≡_, refl, sym, _∙_}
-use mathlib.Core.List.{List}
+use mathlib.Core.List.{List, _++_}
 use native.Mathlib.Omega.{arith}
 use lib.Dec.{eqb}
-use lib.ListN.{getD}
+use lib.ListN.{getD, drop}
 use Rattle.laws.specs.Choose.{if_then_else_}
 use Rattle.laws.specs.Upwards.{each}
 use Rattle.laws.proofs.Upwards.{each-at, each-same}
 use Rattle.night.specs.Night.{Night, nodeOf}
 use Rattle.night.specs.Promised.{Promised}
 use Rattle.model.specs.Tables.{tableOf}
-use Rattle.model.specs.Keys.{events, keyName, keyHolders}
+use Rattle.run.specs.Keys.{events, keyName, keyHolders}
 use Rattle.model.specs.Plan.{openings, sealings, built, rootTied, nameIn, holdersIn, inTurn, planRoom, keysRoom}
 use Rattle.model.proofs.Built.{opens-needed, seals-clear}
 use Rattle.model.proofs.Turns.{turn-same}
@@ -29,9 +29,15 @@ module _ (N : Night) (sound : Promised N) (subjects opens seals tied : List ℕ)
       rw seals-are
       (each-at (λ j. if eqb (j + 1) (N .header .nodes) then 0 else tableOf N j .clear) 0 i 64 (omega (arith, sound .counts .nodes-most)) ∙ sym (seals-clear N sound i l))
 
-  pub plan-pairs : inTurn (λ i. getD opens i 0) (λ i. getD seals i 0) (N .header .nodes) ≡ planRoom N (built N (λ i. getD subjects i 0))
+  plan-pairs : inTurn (λ i. getD opens i 0) (λ i. getD seals i 0) (N .header .nodes) ≡ planRoom N (built N (λ i. getD subjects i 0))
   unfolding planRoom
   plan-pairs = turn-same (λ i. getD opens i 0) (λ i. getD seals i 0) (openings N (sealings N)) (sealings N) (N .header .nodes) opens-at seals-at
+
+  -- the plan's room, where these lists are written into it in turn
+  pub plan-written : (before : List ℕ) {room : List ℕ}
+      → room ≡ inTurn (λ i. getD opens i 0) (λ i. getD seals i 0) (N .header .nodes) ++ drop (2 * N .header .nodes) before
+      → room ≡ planRoom N (built N (λ i. getD subjects i 0)) ++ drop (2 * N .header .nodes) before
+  plan-written before written = rw (← plan-pairs) written
 
   events-are : nodeEvents subjects opens seals (N .header .nodes) ≡ events N (built N (λ i. getD subjects i 0))
   unfolding nodeEvents events
@@ -48,7 +54,7 @@ module _ (N : Night) (sound : Promised N) (subjects opens seals tied : List ℕ)
   unfolding holdersIn rootTied
   holders-are k = rw (events-are, tied-are) refl
 
-  pub keys-pairs : (names holders : List ℕ)
+  keys-pairs : (names holders : List ℕ)
       → names ≡ each 64 (keyName (λ j. getD tied j 0) (nodeEvents subjects opens seals (N .header .nodes)))
       → holders ≡ each 64 (keyHolders (λ j. getD tied j 0) (nodeEvents subjects opens seals (N .header .nodes)))
       → inTurn (λ k. getD names k 0) (λ k. getD holders k 0) (N .header .attributes) ≡ keysRoom N (built N (λ i. getD subjects i 0))
@@ -59,3 +65,11 @@ module _ (N : Night) (sound : Promised N) (subjects opens seals tied : List ℕ)
       rw e (each-at (keyName (λ j. getD tied j 0) (nodeEvents subjects opens seals (N .header .nodes))) 0 k 64 (omega (arith, sound .counts .attributes-most))) ∙ name-is k)
       (λ k l.
       rw q (each-at (keyHolders (λ j. getD tied j 0) (nodeEvents subjects opens seals (N .header .nodes))) 0 k 64 (omega (arith, sound .counts .attributes-most))) ∙ holders-are k)
+
+  -- the keys' room, where names and holders are written into it in turn
+  pub keys-written : (names holders before : List ℕ) {room : List ℕ}
+      → names ≡ each 64 (keyName (λ j. getD tied j 0) (nodeEvents subjects opens seals (N .header .nodes)))
+      → holders ≡ each 64 (keyHolders (λ j. getD tied j 0) (nodeEvents subjects opens seals (N .header .nodes)))
+      → room ≡ inTurn (λ k. getD names k 0) (λ k. getD holders k 0) (N .header .attributes) ++ drop (2 * N .header .attributes) before
+      → room ≡ keysRoom N (built N (λ i. getD subjects i 0)) ++ drop (2 * N .header .attributes) before
+  keys-written names holders before e q written = rw (← keys-pairs names holders e q) written

@@ -10,7 +10,7 @@ use borrow.Author.Tests.{ltb-false}
 use Rattle.laws.specs.Choose.{if_then_else_}
 use Rattle.laws.specs.Trials.{Trial, trial, refuses, verdict, Passes}
 use Rattle.night.specs.Night.{Night}
-use Rattle.model.specs.Refusals.{choiceRoomTrials, planRoomTrials, keysRoomTrials}
+use Rattle.verdicts.specs.Refusals.{choiceRoomTrials, planRoomTrials, keysRoomTrials}
 
 -- the place of the lowest short room of plan and keys, and of all three, 0 where none is short
 abbrev pub lowOfTwo : Night → List ℕ → List ℕ → ℕ

@@ -4,20 +4,20 @@ use mathlib.Core.Path.{_≡_}
 use mathlib.Core.List.{List, _++_}
 use mathlib.Core.Logic.{_↔_, _⊎_}
 use lib.ListN.{getD, drop}
-use Rattle.laws.specs.Trials.{Trial, Says, answers, refuses, verdict}
+use Rattle.laws.specs.Trials.{Says, answers, refuses, verdict}
 use Rattle.laws.specs.Upwards.{each}
 use Rattle.sets.specs.Sets.{In}
+use Rattle.night.specs.declared.Header.{Header}
 use Rattle.night.specs.Night.{Night, nodeOf}
 use Rattle.night.specs.Views.{clearOf, sealedOf}
 use Rattle.layout.specs.Layout.{nightOf}
 use Rattle.model.specs.Candidates.{Candidate, candidateSet}
 use Rattle.model.specs.Choice.{Choice, Least, total, steps}
 use Rattle.model.specs.Plan.{built, planRoom, keysRoom}
-use Rattle.model.specs.Refusals.{choiceRoomTrials, planRoomTrials, keysRoomTrials}
-use Rattle.reading.specs.Trials.{trials}
+use Rattle.verdicts.specs.Refusals.{Rooms, cheapestPlanTrials, offeredPlanTrials}
+use Rattle.trials.specs.Trials.{trials}
 use Rattle.reading.specs.declared.Checked.{Checked}
 use Rattle.reading.specs.declared.Checked.the-variants.{Accepted, Refused}
-use Rattle.choosing.specs.Answers.{cheapestTrials, offeredTrials}
 use Rattle.choosing.specs.declared.Cheapest.{Cheapest}
 use Rattle.choosing.specs.declared.Cheapest.the-variants.{Found, Refused as NotFound}
 use Rattle.choosing.specs.declared.Offered.{Offered}
@@ -45,7 +45,9 @@ candidatesOf s i = verdict (trials s) (candidateSet (nightOf s) i)
 
 -- of every answered set: a subject is in it exactly when it is there, the node is a step, and the subject is a candidate by its view
 abbrev pub CandidatesExactly : Type 0
-CandidatesExactly = (s : List ℕ) (i set : ℕ) → candidatesOf s i ≡ answers set → (p : ℕ) → In p set ↔ ((p < nightOf s .header .subjects) × Candidate (nightOf s) i (clearOf (nightOf s) p) (sealedOf (nightOf s) p))
+CandidatesExactly =
+    (s : List ℕ) (i set : ℕ) → candidatesOf s i ≡ answers set
+    → (p : ℕ) → In p set ↔ ((p < nightOf s .header .subjects) × Candidate (nightOf s) i (clearOf (nightOf s) p) (sealedOf (nightOf s) p))
 
 -- any two answers that say the same are the same
 abbrev pub CandidatesOnce : Type 0
@@ -53,13 +55,15 @@ CandidatesOnce = (a b : CandidateSet) → candidatesSaid a ≡ candidatesSaid b 
 
 -- a leaf and a number that no node has get the empty set
 abbrev pub NoneElsewhere : Type 0
-NoneElsewhere = (s : List ℕ) (i set : ℕ) → candidatesOf s i ≡ answers set → (nightOf s .header .nodes ≤ i) ⊎ (nodeOf (nightOf s) i .kind ≡ 0) → set ≡ 0
+NoneElsewhere =
+    (s : List ℕ) (i set : ℕ) → candidatesOf s i ≡ answers set
+    → (nightOf s .header .nodes ≤ i) ⊎ (nodeOf (nightOf s) i .kind ≡ 0) → set ≡ 0
 
--- the rooms lent for the choice, the plan and the keys
-pub record Rooms : Type 0 where
-  pub choice : List ℕ
-  pub plan : List ℕ
-  pub keys : List ℕ
+-- plan and keys once they are written for the subjects of a choice
+abbrev pub WrittenFor : Night → Header → List ℕ → List ℕ → List ℕ → List ℕ → List ℕ → Type 0
+WrittenFor N h choice plan plan′ keys keys′ =
+    (plan′ ≡ planRoom N (built N (λ i. getD choice i 0)) ++ drop (2 * h .nodes) plan)
+    × (keys′ ≡ keysRoom N (built N (λ i. getD choice i 0)) ++ drop (2 * h .attributes) keys)
 
 -- the plan for a choice fills plan and keys; what lies beyond is as it was
 pub record Filled (N : Night) (c : Choice) (before after : Rooms) : Type 0 where
@@ -80,11 +84,7 @@ abbrev pub choicePassedUp : Cheapest → CheapestPlan
 choicePassedUp (Found total steps) = CheapestWith total steps
 choicePassedUp (NotFound n p) = NoCheapest n p
 
--- `cheapest`: 1 to 11, 12, 13, 15; when refused, every room is as it was
-unfoldable pub cheapestPlanTrials : List ℕ → Rooms → List Trial
-cheapestPlanTrials s rooms =
-    cheapestTrials s ++ (choiceRoomTrials (nightOf s) (rooms .choice) ++ (planRoomTrials (nightOf s) (rooms .plan) ++ keysRoomTrials (nightOf s) (rooms .keys)))
-
+-- `cheapest`: answered where no trial fails, with the rooms filled; when refused, every room is as it was
 abbrev pub CheapestSays : List ℕ → Rooms → Rooms → CheapestPlan → Type 0
 CheapestSays s before after (CheapestWith total steps) =
     (verdict (cheapestPlanTrials s before) (tt {0}) ≡ answers tt) × CheapestFilled (nightOf s) before after total steps
@@ -95,10 +95,7 @@ abbrev pub offerPassedUp : Offered → OfferedPlan
 offerPassedUp (Costs total) = OfferedWith total
 offerPassedUp (NotCosted n p) = NoOffered n p
 
--- `offered`: 1 to 11, 14, 15; the room for the choice is not asked and stays
-unfoldable pub offeredPlanTrials : List ℕ → List ℕ → Rooms → List Trial
-offeredPlanTrials s offer rooms = offeredTrials s offer ++ (planRoomTrials (nightOf s) (rooms .plan) ++ keysRoomTrials (nightOf s) (rooms .keys))
-
+-- `offered`: answered where no trial fails, with plan and keys filled; the room for the choice is not asked and stays
 abbrev pub OfferedSays : List ℕ → List ℕ → Rooms → Rooms → OfferedPlan → Type 0
 OfferedSays s offer before after (OfferedWith total′) =
     (verdict (offeredPlanTrials s offer before) (tt {0}) ≡ answers tt) × (total′ ≡ total (nightOf s) (λ i. getD offer i 0))

@@ -11,7 +11,8 @@ ghost use Rattle.laws.specs.Choose.{if_then_else_};
 ghost use Rattle.laws.specs.Upwards.{each};
 ghost use Rattle.layout.specs.Layout.{nightIn};
 ghost use Rattle.night.specs.Promised.{Promised};
-ghost use Rattle.model.specs.Plan.{built, inTurn, planRoom, keysRoom};
+ghost use Rattle.model.specs.Plan.{inTurn};
+ghost use Rattle.planning.specs.Answers.{WrittenFor};
 
 // The place of the lowest short room of plan and keys, 0 where neither is short.
 pub(crate) fn short_of_two(plan: usize, keys: usize, h: Header) -> u32
@@ -66,7 +67,7 @@ fn fill_pairs(room: &mut [u64], first: [u64; 64], second: [u64; 64], n: u8)
 // The plan's room, and the keys' room, for the choice with these subjects.
 pub(crate) fn fill_plan(file: &[u8], h: Header, choice: &[u8], plan: &mut [u64], keys: &mut [u64])
     requires { ⌜ Promised (nightIn (now file) h) × (2 * h .nodes ≤ length (now plan)) × (2 * h .attributes ≤ length (now keys)) ⌝ }
-    ensures { λ _. ⌜ (now (plan .exit) ≡ planRoom (nightIn (now (file .entry)) h) (built (nightIn (now (file .entry)) h) (λ i. getD (now (choice .entry)) i 0)) ++ drop (2 * h .nodes) (now (plan .entry))) × (now (keys .exit) ≡ keysRoom (nightIn (now (file .entry)) h) (built (nightIn (now (file .entry)) h) (λ i. getD (now (choice .entry)) i 0)) ++ drop (2 * h .attributes) (now (keys .entry))) ⌝ }
+    ensures { λ _. ⌜ WrittenFor (nightIn (now (file .entry)) h) h (now (choice .entry)) (now (plan .entry)) (now (plan .exit)) (now (keys .entry)) (now (keys .exit)) ⌝ }
 {
     let opens = built::all_opens(file, h);
     let seals = built::all_seals(file, h);

@@ -7,10 +7,11 @@ use lib.ListN.{length, take, drop, length-take, length-drop}
 use Rattle.laws.specs.Trials.{Says, answers, refuses}
 use Rattle.night.specs.declared.Header.{Header}
 use Rattle.layout.specs.Layout.{grantsFrom, nodesFrom, nightIn}
-use Rattle.reading.specs.Answers.{checkOf, grantsPart, EmptyWhenRefused, SaidOnce}
+use Rattle.reading.specs.Answers.{grantsPart, EmptyWhenRefused, SaidOnce}
+use Rattle.trials.specs.Trials.{checkOf}
 use Rattle.reading.specs.declared.Checked.the-variants.{Accepted, Refused}
-use Rattle.reading.proofs.Opened.{accepted-header, accepted-length, nodes-within}
-use Rattle.reading.proofs.Promises.{accepted-promises}
+use Rattle.trials.proofs.Opened.{accepted-header, accepted-length, nodes-within}
+use Rattle.trials.proofs.Promises.{accepted-promises}
 
 pub said-once : SaidOnce
 said-once (Accepted h) (Accepted g) e = let same : h ≡ g = cc in ap Accepted same

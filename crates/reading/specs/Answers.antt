@@ -4,11 +4,10 @@ use Prim.Native.Nat.{ℕ, _-_}
 use mathlib.Core.Path.{_≡_}
 use mathlib.Core.Logic.{_↔_}
 use lib.ListN.{take, drop}
-use Rattle.laws.specs.Trials.{Says, answers, refuses, verdict}
+use Rattle.laws.specs.Trials.{Says, answers, refuses}
 use Rattle.night.specs.declared.Header.{Header}
-use Rattle.night.specs.Promised.{Promised}
-use Rattle.layout.specs.Layout.{grantsFrom, nodesFrom, headerOf, nightOf}
-use Rattle.reading.specs.Trials.{trials}
+use Rattle.layout.specs.Layout.{grantsFrom, nodesFrom}
+use Rattle.trials.specs.Trials.{checkOf}
 use Rattle.reading.specs.declared.Checked.{Checked}
 use Rattle.reading.specs.declared.Checked.the-variants.{Accepted, Refused}
 use Rattle.reading.specs.declared.Tried.{Tried}
@@ -24,9 +23,10 @@ abbrev pub triedOf : Tried → Says (Unit {0})
 triedOf Passed = answers tt
 triedOf (Failed n p) = refuses n p
 
--- the verdict of a file's trials
-unfoldable pub checkOf : List ℕ → Says Header
-checkOf s = verdict (trials s) (headerOf s)
+-- a trial that failed as the refusal of `check`
+abbrev pub refusedBy : Tried → Checked
+refusedBy Passed = Refused 0 0
+refusedBy (Failed n p) = Refused n p
 
 -- the part of the file that holds the grant records: empty with a refusal
 abbrev pub grantsPart : Says Header → List ℕ → List ℕ
@@ -41,10 +41,6 @@ numberOf (refuses n p) = n
 abbrev pub placeOf : Says Header → ℕ
 placeOf (answers h) = 0
 placeOf (refuses n p) = p
-
--- every accepted list of bytes has the promised facts
-abbrev pub AcceptedPromises : Type 0
-AcceptedPromises = (s : List ℕ) (h : Header) → checkOf s ≡ answers h → Promised (nightOf s)
 
 -- the part of grant records is empty exactly when the file is refused
 abbrev pub EmptyWhenRefused : Type 0

@@ -1,5 +1,4 @@
--- The refusals of reading, in order, and what is promised of an accepted file.
-pub mod Trials
+-- What reading answers, and what its loops have at hand.
 pub mod HasVisible
 pub mod Answers
-pub mod Sample
+pub mod Taker

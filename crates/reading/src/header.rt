@@ -6,7 +6,7 @@ use rules::records;
 ghost use mathlib.Core.Path.{_≡_};
 ghost use Rattle.laws.specs.Trials.{verdict};
 ghost use Rattle.reading.specs.Answers.{triedOf};
-ghost use Rattle.reading.specs.Trials.{notMarked, notVersioned, headerTrials};
+ghost use Rattle.trials.specs.Trials.{notMarked, notVersioned, headerTrials};
 
 // 1: whether the mark is missing.
 fn not_marked(file: &[u8]) -> bool

@@ -9,7 +9,8 @@ use layout::places;
 use layout::values;
 use night::Header;
 ghost use mathlib.Core.Path.{_≡_};
-ghost use Rattle.reading.specs.Answers.{saidOf, checkOf, grantsPart, numberOf, placeOf};
+ghost use Rattle.reading.specs.Answers.{saidOf, refusedBy, grantsPart, numberOf, placeOf};
+ghost use Rattle.trials.specs.Trials.{checkOf};
 
 // What is said of a file: the header's values where it is accepted, or the first refusal.
 pub enum Checked {
@@ -30,30 +31,33 @@ enum Tried {
     Failed { number: u8, place: u32 },
 }
 
-// The sections of the file whose records are tried one by one.
-enum Section {
-    Relations,
-    Grants,
-    Owners,
-    Nodes,
-    Parents,
-    Prices,
-}
-
 // The verdict on a file, for any bytes.
 pub fn check(file: &[u8]) -> Checked
     ensures { λ r. ⌜ saidOf r ≡ checkOf (now (file .entry)) ⌝ }
 {
     let head = header::header_tried(file);
-    if let Tried::Failed { number, place } = head {
-        return Checked::Refused { number, place };
-    }
+    let Tried::Passed = head else {
+        return refused(head);
+    };
     let h = values::header(file);
     let body = sections::night_tried(file, h);
-    if let Tried::Failed { number, place } = body {
-        return Checked::Refused { number, place };
-    }
+    let Tried::Passed = body else {
+        return refused(body);
+    };
     Checked::Accepted(h)
+}
+
+// The trial that failed, as the refusal. (A row that passed is never handed in.)
+fn refused(tried: Tried) -> Checked
+    ensures { λ r. ⌜ r ≡ refusedBy tried ⌝ }
+{
+    match tried {
+        Tried::Failed { number, place } => Checked::Refused { number, place },
+        Tried::Passed => Checked::Refused {
+            number: 0,
+            place: 0,
+        },
+    }
 }
 
 // The part of the file that holds the grant records: empty with a refusal.

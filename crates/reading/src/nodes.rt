@@ -12,13 +12,22 @@ ghost use mathlib.Core.Bool.{false};
 ghost use lib.Dec.{eqb};
 ghost use lib.ListN.{getD};
 ghost use Rattle.laws.specs.Choose.{if_then_else_};
+ghost use Rattle.laws.specs.First.{somewhere};
 ghost use Rattle.laws.specs.Trials.{verdict};
 ghost use Rattle.layout.specs.Layout.{nightIn};
 ghost use Rattle.night.specs.Kinds.{isChild, taken};
+ghost use Rattle.night.specs.Night.{nodeOf};
 ghost use Rattle.reading.specs.Answers.{triedOf};
+ghost use Rattle.reading.specs.Taker.{isTaker};
 ghost use Rattle.reading.specs.HasVisible.{HasVisible};
-ghost use Rattle.reading.specs.Trials.{isLeafOf, leafBefore, attributesBad, trialsOf};
-ghost use Rattle.reading.specs.declared.Section.the-variants.{Nodes, Parents};
+ghost use Rattle.trials.specs.Trials.{isLeafOf, leafBefore, attributesBad, trialsOf};
+ghost use Rattle.trials.specs.declared.Section.the-variants.{Nodes, Parents};
+
+// A node that takes something for itself: the parent of a node, the leaf of a relation.
+enum Taker {
+    Parent(usize),
+    Leaf(u8),
+}
 
 // The set at k, or none past the end.
 fn entry(visible: &[u64], k: u8) -> u64
@@ -69,13 +78,33 @@ fn is_child(v: Node, c: usize) -> bool
     is_operand(kinds::uses_right(v.kind), v.right, c)
 }
 
-// Whether node number c is an operand of a node before i.
-fn child_taken(file: &[u8], h: Header, i: usize, c: usize) -> bool
-    ensures { λ r. ⌜ r ≡ taken (nightIn (now (file .entry)) h) i c ⌝ }
+// Whether the node is a leaf of relation r.
+fn is_leaf_of(v: Node, r: u8) -> bool
+    ensures { λ b. ⌜ b ≡ isLeafOf v r ⌝ }
+{
+    if v.kind == night::LEAF {
+        return v.x == r;
+    }
+    false
+}
+
+// Whether the node is what is looked for.
+fn is_taker(v: Node, wanted: Taker) -> bool
+    ensures { λ b. ⌜ b ≡ isTaker v wanted ⌝ }
+{
+    match wanted {
+        Taker::Parent(c) => is_child(v, c),
+        Taker::Leaf(r) => is_leaf_of(v, r),
+    }
+}
+
+// Whether a node before i is what is looked for.
+fn taken_by(file: &[u8], h: Header, i: usize, wanted: Taker) -> bool
+    ensures { λ b. ⌜ b ≡ somewhere (λ j. isTaker (nodeOf (nightIn (now (file .entry)) h) j) wanted) i ⌝ }
 {
     let mut j: usize = 0;
     while j < i {
-        if is_child(values::node(file, h, j), c) {
+        if is_taker(values::node(file, h, j), wanted) {
             return true;
         }
         j += 1;
@@ -83,28 +112,18 @@ fn child_taken(file: &[u8], h: Header, i: usize, c: usize) -> bool
     false
 }
 
-// Whether the node is a leaf of relation r.
-fn is_leaf_of(v: Node, r: u8) -> bool
-    ensures { λ b. ⌜ b ≡ isLeafOf v r ⌝ }
+// Whether node number c is an operand of a node before i.
+fn child_taken(file: &[u8], h: Header, i: usize, c: usize) -> bool
+    ensures { λ r. ⌜ r ≡ taken (nightIn (now (file .entry)) h) i c ⌝ }
 {
-    if v.kind == 0 {
-        return v.x == r;
-    }
-    false
+    taken_by(file, h, i, Taker::Parent(c))
 }
 
 // Whether an earlier leaf has taken relation r.
 fn leaf_before(file: &[u8], h: Header, i: usize, r: u8) -> bool
     ensures { λ b. ⌜ b ≡ leafBefore (nightIn (now (file .entry)) h) i r ⌝ }
 {
-    let mut j: usize = 0;
-    while j < i {
-        if is_leaf_of(values::node(file, h, j), r) {
-            return true;
-        }
-        j += 1;
-    }
-    false
+    taken_by(file, h, i, Taker::Leaf(r))
 }
 
 // 9: whether attributes or relation of node i break the kinds' rules.
@@ -113,7 +132,7 @@ fn attributes_bad(file: &[u8], h: Header, visible: &[u64], i: usize) -> bool
     ensures { λ r. ⌜ r ≡ attributesBad (nightIn (now (file .entry)) h) i ⌝ }
 {
     let v = values::node(file, h, i);
-    if v.kind == 0 {
+    if v.kind == night::LEAF {
         let relation = values::relation(file, h, v.x as usize);
         return nodes::leaf_bad(v, h, leaf_before(file, h, i, v.x), relation.set);
     }

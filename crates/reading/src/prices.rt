@@ -9,8 +9,8 @@ ghost use mathlib.Core.Path.{_≡_};
 ghost use Rattle.laws.specs.Trials.{verdict};
 ghost use Rattle.layout.specs.Layout.{nightIn};
 ghost use Rattle.reading.specs.Answers.{triedOf};
-ghost use Rattle.reading.specs.Trials.{priceIn, mostIn, trialsOf};
-ghost use Rattle.reading.specs.declared.Section.the-variants.{Prices};
+ghost use Rattle.trials.specs.Trials.{priceIn, mostIn, trialsOf};
+ghost use Rattle.trials.specs.declared.Section.the-variants.{Prices};
 
 // The price in row i and column p, the rows of step prices first.
 fn price_in(file: &[u8], h: Header, i: usize, p: usize) -> u32

@@ -1,7 +1,6 @@
 // Refusals 5 to 7: relations, grants, owners' views.
 use crate::Tried;
 use layout::values;
-use layout::views;
 use night::Header;
 use rules::records;
 use sets::attributes;
@@ -12,8 +11,8 @@ ghost use Rattle.laws.specs.Trials.{trial, verdict};
 ghost use Rattle.layout.specs.Layout.{nightIn};
 ghost use Rattle.rules.specs.Rules.{leftOver};
 ghost use Rattle.reading.specs.Answers.{triedOf};
-ghost use Rattle.reading.specs.Trials.{takenBefore, pairSeen, trialsOf};
-ghost use Rattle.reading.specs.declared.Section.the-variants.{Relations, Grants, Owners};
+ghost use Rattle.trials.specs.Trials.{takenBefore, pairSeen, trialsOf};
+ghost use Rattle.trials.specs.declared.Section.the-variants.{Relations, Grants, Owners};
 
 // One trial, which fails where `bad` holds.
 pub(crate) fn tried(bad: bool, number: u8, place: usize) -> Tried

@@ -1,10 +1,10 @@
 // The trials of the night, section by section.
-use crate::Section;
 use crate::Tried;
 use crate::nodes;
 use crate::prices;
 use crate::records;
 use night::Header;
+use trials::Section;
 ghost use Prim.Native.Nat.{_<_, _≤_};
 ghost use mathlib.Core.Path.{_≡_};
 ghost use mathlib.Core.List.{_++_};
@@ -12,7 +12,7 @@ ghost use Rattle.laws.specs.Trials.{verdict};
 ghost use Rattle.layout.specs.Layout.{nightIn};
 ghost use Rattle.reading.specs.Answers.{triedOf};
 ghost use Rattle.reading.specs.HasVisible.{HasVisible};
-ghost use Rattle.reading.specs.Trials.{countIn, trialsOf, section, recordTrials, treeTrials};
+ghost use Rattle.trials.specs.Trials.{countIn, trialsOf, section, recordTrials, treeTrials};
 
 // How many records a section has.
 fn records_in(h: Header, part: Section) -> usize

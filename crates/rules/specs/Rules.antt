@@ -9,7 +9,7 @@ use Rattle.night.specs.declared.Header.{Header}
 use Rattle.night.specs.declared.Relation.{Relation}
 use Rattle.night.specs.declared.Grant.{Grant}
 use Rattle.night.specs.declared.Node.{Node}
-use Rattle.night.specs.Kinds.{usesLeft, usesRight, usesX, usesY, usesSet, reads, readTogether}
+use Rattle.night.specs.Kinds.{aLeaf, aCompare, aJoin, anAggregate, aFunction, usesLeft, usesRight, usesX, usesY, usesSet, reads, readTogether}
 use Rattle.night.specs.Views.{anySubject}
 
 -- 4: a count outside its limits
@@ -68,7 +68,7 @@ unusedBad v =
 unfoldable pub shapeBad : Node → ℕ → Bool → Bool → Bool
 shapeBad v i leftTaken rightTaken =
     anyOf
-    (ltb 8 (v .kind) ∷ leftBad v i leftTaken ∷ rightBad v i rightTaken ∷ unusedBad v ∷ not (eqb (v .spare1) 0) ∷ not (eqb (v .spare2) 0)
+    (ltb aFunction (v .kind) ∷ leftBad v i leftTaken ∷ rightBad v i rightTaken ∷ unusedBad v ∷ not (eqb (v .spare1) 0) ∷ not (eqb (v .spare2) 0)
     ∷ not (eqb (v .spare3) 0) ∷ ltb 1000000 (v .size) ∷ [])
 
 -- 9: a leaf's relation is not there or an earlier leaf has taken it, or its set is empty or not within the relation
@@ -83,20 +83,20 @@ xBad v left = if usesX (v .kind) then not (member left (v .x)) else false
 -- 9: a used y is not visible on its side: the left operand in kind 3, the right one in kind 5
 unfoldable pub yBad : Node → ℕ → ℕ → Bool
 yBad v left right =
-    if eqb (v .kind) 3 then not (member left (v .y)) else
-    if eqb (v .kind) 5 then not (member right (v .y)) else
+    if eqb (v .kind) aCompare then not (member left (v .y)) else
+    if eqb (v .kind) aJoin then not (member right (v .y)) else
     false
 
 -- 9: a used set is not visible, or is empty other than in kind 6
 unfoldable pub setBad : Node → ℕ → Bool
 setBad v left =
-    if usesSet (v .kind) then anyOf (not (within (v .set) left) ∷ (if eqb (v .kind) 6 then false else eqb (v .set) 0) ∷ []) else false
+    if usesSet (v .kind) then anyOf (not (within (v .set) left) ∷ (if eqb (v .kind) anAggregate then false else eqb (v .set) 0) ∷ []) else false
 
 -- 9: in kind 6 x is in the set, or in kind 8 it isn't
 unfoldable pub placeBad : Node → Bool
 placeBad v =
-    if eqb (v .kind) 6 then member (v .set) (v .x) else
-    if eqb (v .kind) 8 then not (member (v .set) (v .x)) else
+    if eqb (v .kind) anAggregate then member (v .set) (v .x) else
+    if eqb (v .kind) aFunction then not (member (v .set) (v .x)) else
     false
 
 -- 9: a step uses what is not visible in its operand, or its x and set do not stand as they must
@@ -113,7 +113,7 @@ neededBad v = if within (v .needed) (reads v) then anyOf (map (half (v .needed))
 
 -- 11: the most that a step price may be: 0 at a leaf
 unfoldable pub mostForStep : ℕ → ℕ
-mostForStep kind = if eqb kind 0 then 0 else 1000000
+mostForStep kind = if eqb kind aLeaf then 0 else 1000000
 
 -- 11: the most that a link price may be: 0 from a subject to itself
 unfoldable pub mostForLink : ℕ → ℕ → ℕ

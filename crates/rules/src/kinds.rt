@@ -1,14 +1,16 @@
 // The kinds of node: what each uses, what it reads, what is visible after it.
 use night::Node;
 use sets::attributes;
+ghost use mathlib.Core.List.{[], _∷_};
 ghost use mathlib.Core.Path.{_≡_};
-ghost use Rattle.night.specs.Kinds.{usesLeft, usesRight, usesX, usesY, usesSet, reads, visibleAfter};
+ghost use Rattle.laws.specs.Choose.{if_then_else_};
+ghost use Rattle.night.specs.Kinds.{usesLeft, usesRight, usesX, usesY, usesSet, reads, readTogether, visibleAfter};
 
 // Whether the kind has a left operand.
 pub fn uses_left(kind: u8) -> bool
     ensures { λ r. ⌜ r ≡ usesLeft kind ⌝ }
 {
-    if kind == 0 {
+    if kind == night::LEAF {
         return false;
     }
     true
@@ -18,10 +20,10 @@ pub fn uses_left(kind: u8) -> bool
 pub fn uses_right(kind: u8) -> bool
     ensures { λ r. ⌜ r ≡ usesRight kind ⌝ }
 {
-    if kind == 4 {
+    if kind == night::PRODUCT {
         return true;
     }
-    if kind == 5 {
+    if kind == night::JOIN {
         return true;
     }
     false
@@ -31,22 +33,22 @@ pub fn uses_right(kind: u8) -> bool
 pub fn uses_x(kind: u8) -> bool
     ensures { λ r. ⌜ r ≡ usesX kind ⌝ }
 {
-    if kind == 0 {
+    if kind == night::LEAF {
         return true;
     }
-    if kind == 2 {
+    if kind == night::SELECT_VALUE {
         return true;
     }
-    if kind == 3 {
+    if kind == night::SELECT_ATTRIBUTE {
         return true;
     }
-    if kind == 5 {
+    if kind == night::JOIN {
         return true;
     }
-    if kind == 6 {
+    if kind == night::AGGREGATE {
         return true;
     }
-    if kind == 8 {
+    if kind == night::FUNCTION {
         return true;
     }
     false
@@ -56,10 +58,10 @@ pub fn uses_x(kind: u8) -> bool
 pub fn uses_y(kind: u8) -> bool
     ensures { λ r. ⌜ r ≡ usesY kind ⌝ }
 {
-    if kind == 3 {
+    if kind == night::SELECT_ATTRIBUTE {
         return true;
     }
-    if kind == 5 {
+    if kind == night::JOIN {
         return true;
     }
     false
@@ -69,19 +71,19 @@ pub fn uses_y(kind: u8) -> bool
 pub fn uses_set(kind: u8) -> bool
     ensures { λ r. ⌜ r ≡ usesSet kind ⌝ }
 {
-    if kind == 0 {
+    if kind == night::LEAF {
         return true;
     }
-    if kind == 1 {
+    if kind == night::PROJECT {
         return true;
     }
-    if kind == 6 {
+    if kind == night::AGGREGATE {
         return true;
     }
-    if kind == 7 {
+    if kind == night::COUNT {
         return true;
     }
-    if kind == 8 {
+    if kind == night::FUNCTION {
         return true;
     }
     false
@@ -93,26 +95,43 @@ pub fn reads(v: Node) -> u64
 {
     let kind = v.kind;
     let x = attributes::single(v.x);
-    if kind == 2 {
+    if kind == night::SELECT_VALUE {
         return x;
     }
     let both = attributes::union(x, attributes::single(v.y));
-    if kind == 3 {
+    if kind == night::SELECT_ATTRIBUTE {
         return both;
     }
-    if kind == 5 {
+    if kind == night::JOIN {
         return both;
     }
-    if kind == 6 {
+    if kind == night::AGGREGATE {
         return attributes::union(v.set, x);
     }
-    if kind == 7 {
+    if kind == night::COUNT {
         return v.set;
     }
-    if kind == 8 {
+    if kind == night::FUNCTION {
         return v.set;
     }
     0
+}
+
+// Whether the node reads all that it reads together: kinds 3, 5 and 8.
+pub fn reads_together(v: Node) -> bool
+    ensures { λ r. ⌜ readTogether v ≡ (if r then reads v ∷ [] else []) ⌝ }
+{
+    let k = v.kind;
+    if k == night::SELECT_ATTRIBUTE {
+        return true;
+    }
+    if k == night::JOIN {
+        return true;
+    }
+    if k == night::FUNCTION {
+        return true;
+    }
+    false
 }
 
 // What is visible after the node, where `left` and `right` are visible in its operands.
@@ -120,33 +139,33 @@ pub fn visible_after(v: Node, left: u64, right: u64) -> u64
     ensures { λ r. ⌜ r ≡ visibleAfter v left right ⌝ }
 {
     let kind = v.kind;
-    if kind == 0 {
+    if kind == night::LEAF {
         return v.set;
     }
-    if kind == 1 {
+    if kind == night::PROJECT {
         return v.set;
     }
-    if kind == 2 {
+    if kind == night::SELECT_VALUE {
         return left;
     }
-    if kind == 3 {
+    if kind == night::SELECT_ATTRIBUTE {
         return left;
     }
     let both = attributes::union(left, right);
-    if kind == 4 {
+    if kind == night::PRODUCT {
         return both;
     }
-    if kind == 5 {
+    if kind == night::JOIN {
         return both;
     }
     let x = attributes::single(v.x);
-    if kind == 6 {
+    if kind == night::AGGREGATE {
         return attributes::union(v.set, x);
     }
-    if kind == 7 {
+    if kind == night::COUNT {
         return v.set;
     }
-    if kind == 8 {
+    if kind == night::FUNCTION {
         return attributes::union(attributes::minus(left, v.set), x);
     }
     0

@@ -74,7 +74,7 @@ fn filled(used: bool, field: u8) -> bool
 pub fn shape_bad(v: Node, i: usize, left_taken: bool, right_taken: bool) -> bool
     ensures { λ r. ⌜ r ≡ shapeBad v i «left_taken» «right_taken» ⌝ }
 {
-    if 8 < v.kind {
+    if night::FUNCTION < v.kind {
         return true;
     }
     if left_bad(v, i, left_taken) {
@@ -135,10 +135,10 @@ fn x_bad(v: Node, left: u64) -> bool
 fn y_bad(v: Node, left: u64, right: u64) -> bool
     ensures { λ r. ⌜ r ≡ yBad v left right ⌝ }
 {
-    if v.kind == 3 {
+    if v.kind == night::SELECT_ATTRIBUTE {
         return !attributes::has(left, v.y);
     }
-    if v.kind == 5 {
+    if v.kind == night::JOIN {
         return !attributes::has(right, v.y);
     }
     false
@@ -152,7 +152,7 @@ fn set_bad(v: Node, left: u64) -> bool
         if !attributes::within(v.set, left) {
             return true;
         }
-        if v.kind == 6 {
+        if v.kind == night::AGGREGATE {
             return false;
         }
         return v.set == 0;
@@ -164,10 +164,10 @@ fn set_bad(v: Node, left: u64) -> bool
 fn place_bad(v: Node) -> bool
     ensures { λ r. ⌜ r ≡ placeBad v ⌝ }
 {
-    if v.kind == 6 {
+    if v.kind == night::AGGREGATE {
         return attributes::has(v.set, v.x);
     }
-    if v.kind == 8 {
+    if v.kind == night::FUNCTION {
         return !attributes::has(v.set, v.x);
     }
     false
@@ -203,18 +203,10 @@ fn half(needed: u64, together: u64) -> bool
 pub fn needed_bad(v: Node) -> bool
     ensures { λ r. ⌜ r ≡ neededBad v ⌝ }
 {
-    let kind = v.kind;
     let read = kinds::reads(v);
-    let halved = half(v.needed, read);
     if attributes::within(v.needed, read) {
-        if kind == 3 {
-            return halved;
-        }
-        if kind == 5 {
-            return halved;
-        }
-        if kind == 8 {
-            return halved;
+        if kinds::reads_together(v) {
+            return half(v.needed, read);
         }
         return false;
     }

@@ -34,7 +34,7 @@ pub fn counts_bad(h: Header) -> bool
     if 64 < h.nodes {
         return true;
     }
-    if 272 < h.grants {
+    if night::MOST_GRANTS < h.grants {
         return true;
     }
     false
@@ -103,7 +103,7 @@ pub fn owner_bad(v: Relation, clear: u64) -> bool
 pub fn most_for_step(kind: u8) -> u32
     ensures { λ r. ⌜ r ≡ mostForStep kind ⌝ }
 {
-    if kind == 0 {
+    if kind == night::LEAF {
         return 0;
     }
     1_000_000

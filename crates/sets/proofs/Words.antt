@@ -216,6 +216,10 @@ pub unions-more : (f : ℕ → ℕ) (n : ℕ) → unions f (n + 1) ≡ union (un
 unfolding unions
 unions-more f n = rw add-one refl
 
+-- a turn of a loop: the next set joined to those so far
+pub unions-turn : {all s next : ℕ} (f : ℕ → ℕ) (n : ℕ) → all ≡ unions f n → s ≡ f n → next ≡ union all s → next ≡ unions f (n + 1)
+unions-turn f n all s next = next ∙ (λ i. union (all i) (s i)) ∙ sym (unions-more f n)
+
 -- a set whose members are below w fits a word of w bits
 pub members-lt : (w S : ℕ) → ((k : ℕ) → In k S → k < w) → S < 2 ^ w
 members-lt w S h =

@@ -1,6 +1,6 @@
 // Sets of attributes: bit k of a u64 for attribute k. A number from 64 on is in no set.
 ghost use mathlib.Core.Path.{_≡_};
-ghost use Rattle.sets.specs.Sets.{member, union, meet, minus, within, apart, below, single, lowest, size};
+ghost use Rattle.sets.specs.Sets.{member, union, meet, minus, within, apart, below, single, lowest};
 
 // Whether k is a member.
 pub fn has(set: u64, k: u8) -> bool
@@ -72,11 +72,4 @@ pub fn lowest(set: u64) -> u32
     ensures { λ r. ⌜ r ≡ lowest 64 set ⌝ }
 {
     u64::trailing_zeros(set)
-}
-
-// How many members there are.
-pub fn size(set: u64) -> u32
-    ensures { λ r. ⌜ r ≡ size set ⌝ }
-{
-    u64::count_ones(set)
 }

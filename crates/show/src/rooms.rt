@@ -2,6 +2,7 @@
 ghost use mathlib.Core.Path.{_≡_};
 ghost use mathlib.Core.Bool.{false, not};
 ghost use lib.Dec.{eqb, ltb};
+ghost use lib.ListN.{take};
 ghost use Rattle.laws.specs.Choose.{if_then_else_};
 ghost use Rattle.show.specs.Kept.{kept};
 
@@ -52,4 +53,24 @@ pub fn words_kept(room: &[u64], from: usize) -> bool
         i += 1;
     }
     true
+}
+
+// The front of a room of bytes: its first n, or all of it where it is shorter.
+pub fn bytes_front(room: &mut [u8], n: usize) -> &mut [u8]
+    ensures { λ r. ⌜ now r ≡ take n (now (room .entry)) ⌝ }
+{
+    if room.len() < n {
+        return room;
+    }
+    &mut room[..n]
+}
+
+// The front of a room of numbers.
+pub fn words_front(room: &mut [u64], n: usize) -> &mut [u64]
+    ensures { λ r. ⌜ now r ≡ take n (now (room .entry)) ⌝ }
+{
+    if room.len() < n {
+        return room;
+    }
+    &mut room[..n]
 }

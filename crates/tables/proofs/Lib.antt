@@ -1,2 +1,3 @@
--- The tables of the night that a file holds.
+-- The tables of the night that a file holds, and how tables are made.
 pub mod Nodes
+pub mod Made

@@ -77,13 +77,13 @@ fn join(t: Table, u: Table) -> Table
 fn tests(v: Node) -> u64
     ensures { λ r. ⌜ r ≡ tests v ⌝ }
 {
-    if v.kind == 2 {
+    if v.kind == night::SELECT_VALUE {
         return attributes::single(v.x);
     }
-    if v.kind == 6 {
+    if v.kind == night::AGGREGATE {
         return v.set;
     }
-    if v.kind == 7 {
+    if v.kind == night::COUNT {
         return v.set;
     }
     0
@@ -93,13 +93,7 @@ fn tests(v: Node) -> u64
 fn tied_after(v: Node, tied: [u64; 64]) -> [u64; 64]
     ensures { λ r. ⌜ r ≡ tieAll tied (ties v) ⌝ }
 {
-    if v.kind == 3 {
-        return ties::tied_with(tied, kinds::reads(v));
-    }
-    if v.kind == 5 {
-        return ties::tied_with(tied, kinds::reads(v));
-    }
-    if v.kind == 8 {
+    if kinds::reads_together(v) {
         return ties::tied_with(tied, kinds::reads(v));
     }
     tied

@@ -19,7 +19,7 @@ fn table_of_operand(file: &[u8], h: Header, i: usize, c: u8) -> Table
         return parts::no_table();
     }
     let v = values::node(file, h, number);
-    if v.kind == 0 {
+    if v.kind == night::LEAF {
         return parts::leaf_table(v);
     }
     table_of_step(file, h, number)
@@ -41,7 +41,7 @@ pub fn table_of(file: &[u8], h: Header, i: usize) -> Table
     ensures { λ r. ⌜ r ≡ tableOf (nightIn (now (file .entry)) h) i ⌝ }
 {
     let v = values::node(file, h, i);
-    if v.kind == 0 {
+    if v.kind == night::LEAF {
         return parts::leaf_table(v);
     }
     table_of_step(file, h, i)

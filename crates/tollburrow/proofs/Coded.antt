@@ -1,8 +1,6 @@
 -- The numbers that are returned and written, case by case.
-use Prim.Native.Nat.{ℕ, _-_, _≤_}
+use Prim.Native.Nat.{ℕ, _-_}
 use mathlib.Core.Path.{_≡_, refl}
-use mathlib.Core.List.{List}
-use native.Mathlib.Omega.{arith}
 use Rattle.laws.specs.Trials.{Says, answers, refuses}
 use Rattle.night.specs.declared.Header.{Header}
 use Rattle.layout.specs.Layout.{grantsFrom, nodesFrom}
@@ -23,8 +21,3 @@ part-refused x q n p r from length e f g = rw (← e) (g, rw f refl, rw f refl)
 pub part-answered : (x q : Says Header) (h : Header) (start end from length : ℕ) → x ≡ q → x ≡ answers h → start ≡ grantsFrom h → end ≡ nodesFrom h
     → (0 ≡ codeOf q) × (start ≡ partFrom q from) × (end - start ≡ partLength q length)
 part-answered x q h start end from length e f g k = rw (← e, f, g, k) (refl, refl, refl)
-
--- the part ends after it starts
-pub nodes-after : (h : Header) → grantsFrom h ≤ nodesFrom h
-unfolding nodesFrom
-nodes-after h = omega arith

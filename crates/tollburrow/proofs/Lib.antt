@@ -1,2 +1,3 @@
 -- What the numbers rest on.
 pub mod Coded
+pub mod Told

@@ -1,5 +1,6 @@
--- What the functions for other languages return: 0, or the refusal's number times 2^32 and its place. What they write where they are refused is what stood there.
-use Prim.Native.Nat.{ℕ, _+_, _-_, _*_}
+-- What the functions for other languages return: 0, or the refusal's number times 2^32 and its place. What they write where they are
+-- refused is what stood there.
+use Prim.Native.Nat.{ℕ, _+_, _-_, _*_, _/_, _%_, _^_}
 use mathlib.Core.Path.{_≡_}
 use mathlib.Core.List.{List}
 use Rattle.laws.specs.Trials.{Says, answers, refuses}
@@ -9,7 +10,9 @@ use Rattle.planning.specs.declared.CheapestPlan.{CheapestPlan}
 use Rattle.planning.specs.declared.CheapestPlan.the-variants.{Cheapest, Refused as NoCheapest}
 use Rattle.planning.specs.declared.OfferedPlan.{OfferedPlan}
 use Rattle.planning.specs.declared.OfferedPlan.the-variants.{Offered, Refused as NoOffered}
-use Rattle.planning.specs.Answers.{Rooms, CheapestSays, OfferedSays}
+use Rattle.trials.specs.Trials.{checkOf}
+use Rattle.verdicts.specs.Refusals.{Rooms}
+use Rattle.planning.specs.Answers.{candidatesOf, CheapestSays, OfferedSays}
 
 -- a refusal as one number
 abbrev pub refusalCode : ℕ → ℕ → ℕ
@@ -69,3 +72,17 @@ pub record OfferedOut (s offer : List ℕ) (before after : Rooms) (total total�
   pub says : OfferedSays s offer before after said
   pub its-code : code ≡ offeredCode said
   pub its-total : total′ ≡ costOr said total
+
+-- a refusal's code isn't 0, and number and place can be had back from it
+pub record Told (code number place : ℕ) : Type 0 where
+  pub some : code ≡ 0 → ⊥
+  pub number-back : code / 2 ^ 32 ≡ number
+  pub place-back : code % 2 ^ 32 ≡ place
+
+-- so whatever is refused
+pub record CodesTold : Type 0 where
+  pub check : (s : List ℕ) (n p : ℕ) → checkOf s ≡ refuses n p → Told (codeOf (checkOf s)) n p
+  pub candidates : (s : List ℕ) (i n p : ℕ) → candidatesOf s i ≡ refuses n p → Told (codeOf (candidatesOf s i)) n p
+  pub cheapest : (s : List ℕ) (before after : Rooms) (n p : ℕ) → CheapestSays s before after (NoCheapest n p) → Told (cheapestCode (NoCheapest n p)) n p
+  pub offered : (s offer : List ℕ) (before after : Rooms) (n p : ℕ) → OfferedSays s offer before after (NoOffered n p)
+      → Told (offeredCode (NoOffered n p)) n p

@@ -7,8 +7,10 @@ use reading::Checked;
 ghost use mathlib.Core.Path.{_≡_};
 ghost use mathlib.Core.List.{[]};
 ghost use Prim.Native.Nat.{_+_, _*_};
-ghost use Rattle.reading.specs.Answers.{saidOf, checkOf};
-ghost use Rattle.planning.specs.Answers.{candidatesSaid, candidatesOf, Rooms};
+ghost use Rattle.reading.specs.Answers.{saidOf};
+ghost use Rattle.trials.specs.Trials.{checkOf};
+ghost use Rattle.planning.specs.Answers.{candidatesSaid, candidatesOf};
+ghost use Rattle.verdicts.specs.Refusals.{Rooms};
 ghost use Rattle.tollburrow.specs.Codes.{codeOf, orElse, partFrom, partLength, cheapestCode, offeredCode, CheapestOut, OfferedOut};
 
 // A refusal as one number.

@@ -4,8 +4,9 @@ use mathlib.Core.Path.{_≡_, sym, ap, _∙_}
 use denote.Ref.{now}
 use Rattle.laws.specs.Trials.{answers}
 use Rattle.layout.specs.Layout.{nightIn}
-use Rattle.model.specs.Refusals.{withoutCandidate}
-use Rattle.reading.specs.Answers.{saidOf, checkOf}
+use Rattle.verdicts.specs.Refusals.{withoutCandidate}
+use Rattle.reading.specs.Answers.{saidOf}
+use Rattle.trials.specs.Trials.{checkOf}
 use Rattle.choosing.proofs.Answered.{none-below, all-have, without-refused, steps-refused, choice-passes, choice-unread, sound-night, choice-refused, choice-found}
 use Rattle.choosing.proofs.cheapest_choice.Statement.{statement}
 use Rattle.choosing.proofs.cheapest_choice.Tie as tie

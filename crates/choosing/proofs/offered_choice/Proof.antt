@@ -4,8 +4,9 @@ use mathlib.Core.Path.{_≡_, sym, ap, _∙_}
 use denote.Ref.{now}
 use Rattle.laws.specs.Trials.{answers}
 use Rattle.layout.specs.Layout.{nightIn}
-use Rattle.model.specs.Refusals.{offerBad}
-use Rattle.reading.specs.Answers.{saidOf, checkOf}
+use Rattle.verdicts.specs.Refusals.{offerBad}
+use Rattle.reading.specs.Answers.{saidOf}
+use Rattle.trials.specs.Trials.{checkOf}
 use Rattle.choosing.proofs.Answered.{none-below, length-refused, node-refused, offer-passes, offer-admissible, offer-unread, sound-night, offer-refused, offer-costs}
 use Rattle.choosing.proofs.offered_choice.Statement.{statement}
 use Rattle.choosing.proofs.offered_choice.Tie as tie

@@ -1,8 +1,10 @@
 -- A candidate by its view is chosen alone.
 use borrow.Author.Needs.{needs}
-use Rattle.laws.proofs.Cases.{cases}
-use mathlib.Core.Path.{ap}
-use Rattle.night.specs.declared.View.{View}
+use mathlib.Core.Path.{refl, _∙_}
+use denote.Ref.{now}
+use Rattle.laws.proofs.Cases.{yes-is, no-is}
+use Rattle.layout.specs.Layout.{nightIn}
+use Rattle.eligible.proofs.Asked.{asked-of}
 use Rattle.eligible.proofs.as_candidate.Statement.{statement}
 use Rattle.eligible.proofs.as_candidate.Tie as tie
 
@@ -17,13 +19,17 @@ single-requires c κs = search needs
 
 returns : tie.Need-returns
 returns c =
-    rw (← ap (λ (v : View). v .clear) (c .before .before .before .overall .ensures), ← ap (λ (v : View). v .sealed) (c .before .before .before .overall .ensures), ← c .before .before .is-candidate .ensures, ← c .single .ensures)
-    (search cases depth 20)
+    let b = c .before .before .before in
+    let a = b .before .before .args in
+    let asked = asked-of (nightIn (now (a .file)) (a .h)) (a .i) (a .p) (b .overall .ensures) (c .before .before .is-candidate .ensures) in
+    yes-is _ _ _ _ (asked ∙ c .before .if1 .taken) (c .single .ensures)
 
 returns-2 : tie.Need-returns-2
 returns-2 c =
-    rw (← ap (λ (v : View). v .clear) (c .before .before .overall .ensures), ← ap (λ (v : View). v .sealed) (c .before .before .overall .ensures), ← c .before .is-candidate .ensures)
-    (search cases depth 20)
+    let b = c .before .before in
+    let a = b .before .before .args in
+    let asked = asked-of (nightIn (now (a .file)) (a .h)) (a .i) (a .p) (b .overall .ensures) (c .before .is-candidate .ensures) in
+    no-is _ _ _ _ (asked ∙ c .if1 .left) refl
 
 pub as-candidate-spec : {M : Type 1} → statement M
 as-candidate-spec =

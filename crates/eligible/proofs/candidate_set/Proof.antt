@@ -5,7 +5,7 @@ use Prim.Native.Nat.{_≤_, _-_}
 use mathlib.Core.Path.{_≡_, sym}
 use Rattle.laws.specs.Choose.{if_then_else_}
 use Rattle.sets.specs.Sets.{single, unions}
-use Rattle.sets.proofs.Words.{unions-none, unions-more}
+use Rattle.sets.proofs.Words.{unions-none, unions-turn}
 use Rattle.night.specs.Views.{clearOf, sealedOf}
 use Rattle.layout.specs.Layout.{nightIn}
 use Rattle.model.specs.Candidates.{isCandidate, candidateSet}
@@ -34,7 +34,9 @@ loop-less : tie.Need-loop-less Inv-loop μ-loop
 loop-less c = omega arith
 
 loop-again : tie.Need-loop-again Inv-loop μ-loop
-loop-again c = (omega arith, rw unions-more (cc))
+loop-again c =
+    let b = c .before .before .before .before in
+    (omega arith, unions-turn _ (b .loop .p) (b .loop .inv .1) (c .before .as-candidate .ensures) (c .union .ensures))
 
 returns : tie.Need-returns Inv-loop μ-loop
 unfolding candidateSet nightIn

@@ -40,7 +40,8 @@ use denote.Exit.{yes}
 use denote.Triple.Clauses.{ensured, lasts}
 use Rattle.laws.specs.Trials.{Says}
 use Rattle.night.specs.declared.Header.{Header}
-use Rattle.reading.specs.Answers.{saidOf, checkOf, grantsPart, numberOf, placeOf}
+use Rattle.reading.specs.Answers.{saidOf, grantsPart, numberOf, placeOf}
+use Rattle.trials.specs.Trials.{checkOf}
 use Rattle.reading.specs.declared.Checked.{Checked}
 use Rattle.reading.specs.declared.Part.{Part}
 use Rattle.reading.proofs.Checked as S

@@ -4,7 +4,7 @@ use native.Mathlib.Omega.{arith}
 use mathlib.Core.Path.{refl, sym, ap, _∙_}
 use denote.Ref.{now}
 use Rattle.reading.specs.Answers.{saidOf}
-use Rattle.reading.proofs.Opened.{accepted-length, grants-first, nodes-within}
+use Rattle.trials.proofs.Opened.{accepted-length, grants-first, nodes-within}
 use Rattle.reading.proofs.part_in.Statement.{statement}
 use Rattle.reading.proofs.part_in.Tie as tie
 

@@ -1,7 +1,8 @@
 -- The lower answer as numbers.
 use mathlib.Core.Path.{ap}
 use Rattle.reading.specs.Answers.{saidOf}
-use Rattle.tollburrow.proofs.Coded.{part-refused, part-answered, nodes-after}
+use Rattle.trials.proofs.Opened.{grants-first}
+use Rattle.tollburrow.proofs.Coded.{part-refused, part-answered}
 use borrow.Author.Needs.{needs}
 use Rattle.tollburrow.proofs.tollburrow_grant_records.Statement.{statement}
 use Rattle.tollburrow.proofs.tollburrow_grant_records.Tie as tie
@@ -28,7 +29,7 @@ nodes-from-requires : tie.Need-nodes-from-requires
 nodes-from-requires c κs = search needs
 
 sub-length : tie.Need-sub-length
-sub-length c = rw (c .before .grants-from .ensures .0, c .nodes-from .ensures .0) (nodes-after _)
+sub-length c = rw (c .before .grants-from .ensures .0, c .nodes-from .ensures .0) (grants-first _)
 
 returns-2 : tie.Need-returns-2
 returns-2 c = part-answered _ _ _ _ _ _ _ (c .before .before .before .before .before .check .ensures) (ap saidOf (c .before .before .before .answer .given .1)) (c .before .grants-from .ensures .0) (c .nodes-from .ensures .0)

@@ -1,14 +1,12 @@
 -- The price and both links.
 use native.Mathlib.Omega.{arith}
 use borrow.Author.Needs.{needs}
-use Prim.Native.Nat.{_≤_}
 use denote.Ref.{now}
 use Rattle.layout.specs.Layout.{nightIn}
 use lib.ListN.{getD}
 use Rattle.model.proofs.CostRows.{paid}
-use Rattle.model.proofs.Weight.{paid-most, d-there}
 use Rattle.choosing.proofs.Sets.{left-there, right-there}
-use Rattle.choosing.proofs.Offers.{cost-made}
+use Rattle.choosing.proofs.Offers.{cost-made, paid-little}
 use Rattle.choosing.proofs.offer.cost_at.Statement.{statement}
 use Rattle.choosing.proofs.offer.cost_at.Tie as tie
 
@@ -44,7 +42,7 @@ unfolding nightIn paid
 add-result c =
     let b = c .before .before .before .before .before .before .before .before .before in
     let N = nightIn (now (b .args .file)) (b .args .h) in
-    let p : c .paid .result ≤ 1000000 = rw (c .paid .ensures) (paid-most N (b .pre .0) (b .args .i) _ (b .pre .3) (d-there N (b .pre .0) (λ j. getD (now (b .args .offer)) j 0) (b .pre .1) (b .args .i) (b .pre .3))) in
+    let p = paid-little N (b .pre .0) (now (b .args .offer)) (b .pre .1) (b .args .i) (c .paid .result) (b .pre .3) (c .paid .ensures) in
     omega (arith, p, c .before .before .before .before .handed-over .ensures .1)
 
 add-result-2 : tie.Need-add-result-2
@@ -52,7 +50,7 @@ unfolding nightIn paid
 add-result-2 c =
     let b = c .before .before .before .before .before .before .before .before .before in
     let N = nightIn (now (b .args .file)) (b .args .h) in
-    let p : c .paid .result ≤ 1000000 = rw (c .paid .ensures) (paid-most N (b .pre .0) (b .args .i) _ (b .pre .3) (d-there N (b .pre .0) (λ j. getD (now (b .args .offer)) j 0) (b .pre .1) (b .args .i) (b .pre .3))) in
+    let p = paid-little N (b .pre .0) (now (b .args .offer)) (b .pre .1) (b .args .i) (c .paid .result) (b .pre .3) (c .paid .ensures) in
     omega (arith, p, c .before .before .before .before .handed-over .ensures .1, c .before .before .handed-over2 .ensures .1)
 
 returns : tie.Need-returns
@@ -60,7 +58,7 @@ unfolding nightIn paid
 returns c =
     let b = c .before .before .before .before .before .before .before .before .before in
     let N = nightIn (now (b .args .file)) (b .args .h) in
-    let p : c .paid .result ≤ 1000000 = rw (c .paid .ensures) (paid-most N (b .pre .0) (b .args .i) _ (b .pre .3) (d-there N (b .pre .0) (λ j. getD (now (b .args .offer)) j 0) (b .pre .1) (b .args .i) (b .pre .3))) in
+    let p = paid-little N (b .pre .0) (now (b .args .offer)) (b .pre .1) (b .args .i) (c .paid .result) (b .pre .3) (c .paid .ensures) in
     (cost-made N (b .args .i) (c .before .before .before .before .before .before .node .result) (c .before .before .before .before .before .before .node .ensures) (λ j. getD (now (b .args .offer)) j 0) (c .before .before .before .before .before .uses-left .result) (c .before .before .before .uses-right .result) (c .before .before .before .before .before .uses-left .ensures) (c .before .before .before .uses-right .ensures) _ _ _ (c .paid .ensures) (c .before .before .before .before .handed-over .ensures .0) (c .before .before .handed-over2 .ensures .0), omega (arith, p, c .before .before .before .before .handed-over .ensures .1, c .before .before .handed-over2 .ensures .1))
 
 pub cost-at-spec : {M : Type 1} → statement M

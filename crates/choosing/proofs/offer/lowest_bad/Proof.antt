@@ -5,7 +5,7 @@ use mathlib.Core.Path.{_≡_, sym, _∙_}
 use Rattle.layout.specs.Layout.{nightIn}
 use Rattle.laws.specs.First.{first}
 use Rattle.laws.proofs.First.{first-none, first-more, first-found, first-all}
-use Rattle.model.specs.Refusals.{offerBad}
+use Rattle.verdicts.specs.Refusals.{offerBad}
 use Rattle.choosing.proofs.offer.lowest_bad.Statement.{statement}
 use Rattle.choosing.proofs.offer.lowest_bad.Tie as tie
 

@@ -1,13 +1,15 @@
 -- The sum grows by one node a turn.
 use borrow.Author.Needs.{needs}
+use denote.Ref.{now}
 use native.Mathlib.Omega.{arith}
 use Prim.Native.Nat.{_*_, _≤_, _-_}
 use mathlib.Core.Path.{_≡_, sym}
 use Rattle.layout.specs.Layout.{nightIn}
 use lib.ListN.{getD}
 use Rattle.laws.specs.Sums.{sum}
-use Rattle.laws.proofs.Sums.{sum-none, sum-more}
+use Rattle.laws.proofs.Sums.{sum-none}
 use Rattle.model.specs.Choice.{costAt, total}
+use Rattle.choosing.proofs.Summed.{sum-turn}
 use Rattle.choosing.proofs.offer.total.Statement.{statement}
 use Rattle.choosing.proofs.offer.total.Tie as tie
 
@@ -37,7 +39,14 @@ loop-less : tie.Need-loop-less Inv-loop μ-loop
 loop-less c = omega arith
 
 loop-again : tie.Need-loop-again Inv-loop μ-loop
-loop-again c = (omega arith, omega arith, omega (arith, c .cost-at .ensures .1), rw sum-more (cc))
+loop-again c =
+    let b = c .before .before in
+    let a = b .before .before .before .before .args in (
+      omega arith,
+      omega arith,
+      omega (arith, c .cost-at .ensures .1),
+      sum-turn (costAt (nightIn (now (a .file)) (a .h)) (λ j. getD (now (a .offer)) j 0)) (b .loop .i) (b .loop .inv .3) (c .cost-at .ensures .0),
+    )
 
 returns : tie.Need-returns Inv-loop μ-loop
 unfolding total nightIn

@@ -2,7 +2,11 @@
 use native.Mathlib.Omega.{arith}
 use borrow.Author.Needs.{needs}
 use Rattle.laws.proofs.Cases.{cases}
-use mathlib.Core.Path.{sym, _∙_}
+use Prim.Native.Nat.{_*_}
+use mathlib.Core.Path.{_≡_, sym, _∙_}
+use denote.Ref.{now}
+use Rattle.layout.specs.Layout.{nightIn}
+use Rattle.night.specs.Night.{linkPrice}
 use Rattle.sets.proofs.Members.{member-in}
 use Rattle.choosing.proofs.rows.tried.Statement.{statement}
 use Rattle.choosing.proofs.rows.tried.Tie as tie
@@ -14,7 +18,11 @@ handed-requires : tie.Need-handed-requires
 handed-requires c κs = search needs
 
 add-better : tie.Need-add-better
-add-better c = omega (arith, c .before .before .before .before .pre (member-in _ _ (sym (c .before .before .has .ensures) ∙ c .before .if1 .taken)), c .handed .ensures)
+add-better c =
+    let b = c .before .before .before .before in
+    let a = b .args in
+    let link : c .handed .result ≡ a .size * linkPrice (nightIn (now (a .file)) (a .h)) (a .t) (a .s) = c .handed .ensures in
+    omega (arith, b .pre (member-in _ _ (sym (c .before .before .has .ensures) ∙ c .before .if1 .taken)))
 
 better-requires : tie.Need-better-requires
 better-requires c κs = search needs

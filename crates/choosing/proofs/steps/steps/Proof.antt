@@ -1,12 +1,14 @@
 -- The sum grows by one node a turn.
 use borrow.Author.Needs.{needs}
+use denote.Ref.{now}
 use native.Mathlib.Omega.{arith}
 use Prim.Native.Nat.{_*_, _≤_, _-_}
 use mathlib.Core.Path.{_≡_, sym}
 use Rattle.layout.specs.Layout.{nightIn}
 use Rattle.laws.specs.Sums.{sum}
-use Rattle.laws.proofs.Sums.{sum-none, sum-more}
+use Rattle.laws.proofs.Sums.{sum-none}
 use Rattle.model.specs.Choice.{stepsAt, steps}
+use Rattle.choosing.proofs.Summed.{sum-turn}
 use Rattle.choosing.proofs.steps.steps.Statement.{statement}
 use Rattle.choosing.proofs.steps.steps.Tie as tie
 
@@ -36,7 +38,14 @@ loop-less : tie.Need-loop-less Inv-loop μ-loop
 loop-less c = omega arith
 
 loop-again : tie.Need-loop-again Inv-loop μ-loop
-loop-again c = (omega arith, omega arith, omega (arith, c .steps-at .ensures .1), rw sum-more (cc))
+loop-again c =
+    let b = c .before .before in
+    let a = b .before .before .before .args in (
+      omega arith,
+      omega arith,
+      omega (arith, c .steps-at .ensures .1),
+      sum-turn (stepsAt (nightIn (now (a .file)) (a .h))) (b .loop .i) (b .loop .inv .3) (c .steps-at .ensures .0),
+    )
 
 returns : tie.Need-returns Inv-loop μ-loop
 unfolding steps nightIn

@@ -8,7 +8,7 @@ use denote.Ref.{now}
 use Rattle.layout.specs.Layout.{nightIn}
 use Rattle.laws.specs.First.{first}
 use Rattle.laws.proofs.First.{first-none, first-more, first-found, first-all}
-use Rattle.model.specs.Refusals.{withoutCandidate}
+use Rattle.verdicts.specs.Refusals.{withoutCandidate}
 use Rattle.choosing.proofs.Sets.{without-at}
 use Rattle.choosing.proofs.subjects.lowest_without.Statement.{statement}
 use Rattle.choosing.proofs.subjects.lowest_without.Tie as tie

@@ -1,6 +1,8 @@
 -- One test.
-use Rattle.laws.proofs.Cases.{cases}
+use mathlib.Core.Path.{_≡_, refl, sym, ap, _∙_}
 use borrow.Author.Needs.{needs}
+use Rattle.laws.proofs.Cases.{yes-is, no-is}
+use Rattle.sets.specs.Sets.{union, apart}
 use Rattle.keying.proofs.keys.as_holder.Statement.{statement}
 use Rattle.keying.proofs.keys.as_holder.Tie as tie
 
@@ -11,13 +13,20 @@ apart-requires : tie.Need-apart-requires
 apart-requires c κs = search needs
 
 returns : tie.Need-returns
-returns c = rw (← c .before .before .union .ensures, ← c .before .apart .ensures) (search cases depth 20)
+returns c =
+    let a = c .before .before .before .args in
+    let both : c .before .before .union .result ≡ union (a .opened) (a .sealed) = c .before .before .union .ensures in
+    yes-is _ _ _ _ (sym (c .before .apart .ensures ∙ ap (apart (a .group)) both) ∙ c .if1 .taken) refl
 
 single-requires : tie.Need-single-requires
 single-requires c κs = search needs
 
 returns-2 : tie.Need-returns-2
-returns-2 c = rw (← c .before .before .before .union .ensures, ← c .before .before .apart .ensures, ← c .single .ensures) (search cases depth 20)
+returns-2 c =
+    let b = c .before .before in
+    let a = b .before .before .args in
+    let both : b .before .union .result ≡ union (a .opened) (a .sealed) = b .before .union .ensures in
+    no-is _ _ _ _ (sym (b .apart .ensures ∙ ap (apart (a .group)) both) ∙ c .before .if1 .left) (c .single .ensures)
 
 pub as-holder-spec : {M : Type 1} → statement M
 as-holder-spec =

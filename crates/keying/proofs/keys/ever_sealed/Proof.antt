@@ -5,7 +5,7 @@ use Prim.Native.Nat.{_≤_, _-_}
 use mathlib.Core.Path.{_≡_, sym, _∙_}
 use lib.ListN.{getD}
 use Rattle.sets.specs.Sets.{unions}
-use Rattle.sets.proofs.Words.{unions-none, unions-more}
+use Rattle.sets.proofs.Words.{unions-none, unions-turn}
 use Rattle.model.proofs.Keyed.{ever-each}
 use Rattle.keying.specs.Nodes.{nodeEvents}
 use Rattle.keying.proofs.keys.ever_sealed.Statement.{statement}
@@ -33,7 +33,9 @@ loop-less : tie.Need-loop-less Inv-loop μ-loop
 loop-less c = omega arith
 
 loop-again : tie.Need-loop-again Inv-loop μ-loop
-loop-again c = (omega arith, rw unions-more (cc))
+loop-again c =
+    let b = c .before .before .before in
+    (omega arith, unions-turn _ (b .loop .i) (b .loop .inv .1) (c .before .set-at .ensures) (c .union .ensures))
 
 returns : tie.Need-returns Inv-loop μ-loop
 unfolding nodeEvents

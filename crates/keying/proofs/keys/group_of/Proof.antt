@@ -1,6 +1,10 @@
 -- One test.
-use Rattle.laws.proofs.Cases.{cases}
+use mathlib.Core.Path.{_≡_, refl, sym, ap, _∙_}
+use lib.ListN.{getD}
 use borrow.Author.Needs.{needs}
+use Rattle.laws.proofs.Cases.{yes-is, no-is}
+use Rattle.sets.specs.Sets.{union, meet}
+use Rattle.night.specs.Kinds.{attribute}
 use Rattle.keying.proofs.keys.group_of.Statement.{statement}
 use Rattle.keying.proofs.keys.group_of.Tie as tie
 
@@ -20,10 +24,17 @@ meet-requires : tie.Need-meet-requires
 meet-requires c κs = search needs
 
 returns : tie.Need-returns
-returns c = rw (← c .before .before .before .before .before .has .ensures, ← c .before .before .before .single .ensures, ← c .before .before .set-at .ensures, ← c .before .union .ensures, ← c .meet .ensures) (search cases depth 20)
+returns c =
+    let d = c .before .before .before in
+    let b = d .before .before in
+    let a = b .before .args in
+    let alone : d .single .result ≡ attribute (a .k) = d .single .ensures in
+    let tied : c .before .before .set-at .result ≡ getD (a .tied) (a .k) 0 = c .before .before .set-at .ensures in
+    let both = c .before .union .ensures ∙ (λ i. union (alone i) (tied i)) in
+    yes-is _ _ _ _ (sym (b .has .ensures) ∙ d .before .if1 .taken) (c .meet .ensures ∙ ap (meet (a .sealed)) both)
 
 returns-2 : tie.Need-returns-2
-returns-2 c = rw (← c .before .has .ensures) (search cases depth 20)
+returns-2 c = no-is _ _ _ _ (sym (c .before .has .ensures) ∙ c .if1 .left) refl
 
 pub group-of-spec : {M : Type 1} → statement M
 group-of-spec =

@@ -9,7 +9,7 @@ use lib.Seq.{ext-getD}
 use Rattle.laws.specs.Upwards.{each}
 use Rattle.laws.proofs.Upwards.{Agrees, agrees-none, agrees-more, each-length}
 use denote.Ref.{now}
-use Rattle.model.specs.Keys.{groupOf, holdersOf, keyHolders}
+use Rattle.run.specs.Keys.{groupOf, holdersOf, keyHolders}
 use Rattle.keying.specs.Nodes.{nodeEvents}
 use Rattle.keying.proofs.Grouped.{groupAmong}
 use Rattle.keying.proofs.keys.holders.Statement.{statement}
@@ -63,7 +63,8 @@ loop-again c =
     let s = c .before .before .before .before .ever-sealed .result in
     let b = c .before .before .before .loop in
     let f = at (a .tied) (now (a .choice)) (a .opens) (a .seals) (a .n) s in
-    let e : c .holders-of .result ≡ f (b .k) = cc in
+    let group : c .before .group-of .result ≡ groupAmong (a .tied) s (b .k) = c .before .group-of .ensures in
+    let e : c .holders-of .result ≡ f (b .k) = rw (← group) (c .holders-of .ensures) in
     (simp length-set (b .inv .0), omega arith, agrees-more (λ before. f) 0 (b .k) (c .holders-of .result) (b .all) (omega arith) (b .inv .2) e)
 
 returns : tie.Need-returns Inv-loop μ-loop

@@ -1,20 +1,24 @@
 -- The set grows by one node a turn.
 use native.Mathlib.Omega.{arith}
 use borrow.Author.Needs.{needs}
-use Prim.Native.Nat.{_≤_, _-_}
+use Prim.Native.Nat.{ℕ, _≤_, _-_}
 use mathlib.Core.Path.{_≡_, sym, _∙_}
 use denote.Ref.{now}
 use lib.ListN.{getD}
 use Rattle.laws.specs.Choose.{if_then_else_}
 use Rattle.sets.specs.Sets.{union, apart, single, unions}
-use Rattle.sets.proofs.Words.{unions-none, unions-more}
+use Rattle.sets.proofs.Words.{unions-none, unions-turn}
 use Rattle.model.proofs.Keyed.{holders-each}
 use Rattle.keying.specs.Nodes.{nodeEvents}
 use Rattle.keying.proofs.keys.holders_of.Statement.{statement}
 use Rattle.keying.proofs.keys.holders_of.Tie as tie
 
+-- the subject where it opens or seals one of the group
+abbrev held : ℕ → ℕ → ℕ → ℕ → ℕ
+held group p opened sealed = if apart group (union opened sealed) then 0 else single 16 p
+
 abbrev Inv-loop : tie.InvT-loop
-Inv-loop choice opens seals n group all₀ i₀ all i = (i ≤ n) × (all ≡ unions (λ j. if apart group (union (getD opens j 0) (getD seals j 0)) then 0 else single 16 (getD choice j 0)) i)
+Inv-loop choice opens seals n group all₀ i₀ all i = (i ≤ n) × (all ≡ unions (λ j. held group (getD choice j 0) (getD opens j 0) (getD seals j 0)) i)
 
 abbrev μ-loop : tie.MeasureT-loop
 μ-loop choice opens seals n group all₀ i₀ all i = n - i
@@ -44,7 +48,15 @@ loop-less : tie.Need-loop-less Inv-loop μ-loop
 loop-less c = omega arith
 
 loop-again : tie.Need-loop-again Inv-loop μ-loop
-loop-again c = (omega arith, rw unions-more (cc))
+loop-again c =
+    let d = c .before .before in
+    let b = d .before .before .before .before in
+    let a = b .before .before .args in
+    let subject = d .before .before .subject-at .ensures in
+    let opened = d .before .set-at .ensures in
+    let sealed = d .set-at2 .ensures in
+    let e = c .before .as-holder .ensures ∙ (λ k. held (a .group) (subject k) (opened k) (sealed k)) in
+    (omega arith, unions-turn _ (b .loop .i) (b .loop .inv .1) e (c .union .ensures))
 
 returns : tie.Need-returns Inv-loop μ-loop
 unfolding nodeEvents

@@ -1,7 +1,7 @@
 -- The array is the names so far, with nothing after them.
 use borrow.Author.Needs.{needs}
 use Prim.Native.Nat.{ℕ, _≤_, _-_}
-use mathlib.Core.Path.{_≡_, refl, sym, _∙_}
+use mathlib.Core.Path.{_≡_, refl, sym, ap, _∙_}
 use mathlib.Core.List.{List}
 use native.Mathlib.Omega.{arith}
 use lib.ListN.{length, length-set}
@@ -9,7 +9,7 @@ use lib.Seq.{ext-getD}
 use Rattle.laws.specs.Upwards.{each}
 use Rattle.laws.proofs.Upwards.{Agrees, agrees-none, agrees-more, each-length}
 use Rattle.sets.specs.Sets.{lowest}
-use Rattle.model.specs.Keys.{groupOf, keyName}
+use Rattle.run.specs.Keys.{groupOf, keyName}
 use Rattle.keying.proofs.Grouped.{groupAmong}
 use Rattle.keying.proofs.keys.names.Statement.{statement}
 use Rattle.keying.proofs.keys.names.Tie as tie
@@ -59,7 +59,7 @@ loop-again c =
     let a = c .before .before .before .before .before .args in
     let s = c .before .before .before .before .ever-sealed .result in
     let b = c .before .before .before .loop in
-    let e : c .lowest .result ≡ at (a .tied) s (b .k) = cc in
+    let e : c .lowest .result ≡ at (a .tied) s (b .k) = c .lowest .ensures ∙ ap (lowest 64) (c .before .group-of .ensures) in
     (simp length-set (b .inv .0), omega arith, agrees-more (λ before. at (a .tied) s) 0 (b .k) (c .lowest .result) (b .all) (omega arith) (b .inv .2) e)
 
 returns : tie.Need-returns Inv-loop μ-loop

@@ -4,7 +4,8 @@ use mathlib.Core.Path.{_≡_, sym}
 use denote.Ref.{now}
 use native.Mathlib.Omega.{arith}
 use Rattle.laws.specs.BigEndian.{be}
-use Rattle.laws.proofs.BigEndian.{be-none, be-more, be-past, more-lt, room}
+use Rattle.laws.proofs.BigEndian.{be-none, be-past, more-lt, room}
+use Rattle.layout.proofs.Read.{number-turn}
 use Rattle.layout.proofs.bytes.number.Statement.{statement}
 use Rattle.layout.proofs.bytes.number.Tie as tie
 
@@ -48,7 +49,8 @@ loop-less c = omega arith
 loop-again : tie.Need-loop-again Inv-loop μ-loop
 loop-again c =
     let b = c .before .before .before in
-    (omega arith, rw be-more (cc), more-lt (b .loop .i) (b .loop .inv .2) (omega arith))
+    let a = b .before .before .before .args in
+    (omega arith, number-turn (now (a .file)) (a .at) (b .loop .i) (b .loop .inv .1) (c .before .byte .ensures) (c .wide .ensures .0), more-lt (b .loop .i) (b .loop .inv .2) (omega arith))
 
 returns-2 : tie.Need-returns-2 Inv-loop μ-loop
 returns-2 c =

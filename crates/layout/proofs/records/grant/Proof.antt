@@ -3,7 +3,8 @@ use borrow.Author.Needs.{needs}
 use mathlib.Core.Path.{sym}
 use denote.Ref.{now}
 use native.Mathlib.Omega.{arith}
-use Rattle.layout.proofs.Sections.{grant-at, grant-past}
+use Rattle.layout.proofs.Sections.{grant-past}
+use Rattle.layout.proofs.Read.{grant-read}
 use Rattle.layout.proofs.records.grant.Statement.{statement}
 use Rattle.layout.proofs.records.grant.Tie as tie
 
@@ -30,7 +31,7 @@ grant-at-requires c κs = search needs
 returns-2 : tie.Need-returns-2
 returns-2 c =
     let a = c .before .before .before .before .before .args in
-    cc (grant-at (now (a .file)) (a .h) (a .i) (omega arith))
+    grant-read (now (a .file)) (a .h) (a .i) (omega arith) (c .before .grants-from .ensures .0) (c .grant-at .ensures)
 
 pub grant-spec : {M : Type 1} → statement M
 grant-spec =

@@ -1,6 +1,7 @@
 -- Each field is read where the definition has it.
 use borrow.Author.Needs.{needs}
-use Rattle.layout.specs.Layout.{grantAt}
+use denote.Ref.{now}
+use Rattle.layout.proofs.Read.{grant-made}
 use Rattle.layout.proofs.records.grant_at.Statement.{statement}
 use Rattle.layout.proofs.records.grant_at.Tie as tie
 
@@ -26,8 +27,10 @@ eight-requires-2 : tie.Need-eight-requires-2
 eight-requires-2 c κs = search needs
 
 returns : tie.Need-returns
-unfolding grantAt
-returns c = cc
+returns c =
+    let b = c .before .before .before in
+    let a = b .before .before .args in
+    grant-made (now (a .file)) (a .at) (b .byte .ensures) (c .before .before .byte2 .ensures) (c .before .eight .ensures) (c .eight2 .ensures)
 
 pub grant-at-spec : {M : Type 1} → statement M
 grant-at-spec =

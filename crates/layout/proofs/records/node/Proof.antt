@@ -3,7 +3,8 @@ use borrow.Author.Needs.{needs}
 use mathlib.Core.Path.{sym, _∙_}
 use denote.Ref.{now}
 use native.Mathlib.Omega.{arith}
-use Rattle.layout.proofs.Sections.{node-at, node-past}
+use Rattle.layout.proofs.Sections.{node-past}
+use Rattle.layout.proofs.Read.{node-read}
 use Rattle.layout.proofs.records.node.Statement.{statement}
 use Rattle.layout.proofs.records.node.Tie as tie
 
@@ -33,7 +34,7 @@ node-at-requires c κs = search needs
 returns-2 : tie.Need-returns-2
 returns-2 c =
     let a = c .before .before .before .before .before .args in
-    cc (node-at (now (a .file)) (a .h) (a .i) (omega arith))
+    node-read (now (a .file)) (a .h) (a .i) (omega arith) (c .before .nodes-from .ensures .0) (c .node-at .ensures)
 
 pub node-spec : {M : Type 1} → statement M
 node-spec =

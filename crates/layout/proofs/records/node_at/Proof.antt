@@ -1,6 +1,7 @@
 -- Each field is read where the definition has it.
 use borrow.Author.Needs.{needs}
-use Rattle.layout.specs.Layout.{nodeAt}
+use denote.Ref.{now}
+use Rattle.layout.proofs.Read.{node-made}
 use Rattle.layout.proofs.records.node_at.Statement.{statement}
 use Rattle.layout.proofs.records.node_at.Tie as tie
 
@@ -68,8 +69,22 @@ four-requires : tie.Need-four-requires
 four-requires c κs = search needs
 
 returns : tie.Need-returns
-unfolding nodeAt
-returns c = cc
+returns c =
+    let d = c .before .before .before in
+    let b = d .before .before .before .before in
+    let a = b .before .before .before .before .before .args in
+    node-made (now (a .file)) (a .at)
+    (b .before .before .before .byte .ensures)
+    (b .before .before .byte2 .ensures)
+    (b .before .byte3 .ensures)
+    (b .byte4 .ensures)
+    (d .before .before .before .byte5 .ensures)
+    (d .before .before .byte6 .ensures)
+    (d .before .byte7 .ensures)
+    (d .byte8 .ensures)
+    (c .before .before .eight .ensures)
+    (c .before .eight2 .ensures)
+    (c .four .ensures)
 
 pub node-at-spec : {M : Type 1} → statement M
 node-at-spec =

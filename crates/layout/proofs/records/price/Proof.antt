@@ -3,7 +3,8 @@ use borrow.Author.Needs.{needs}
 use mathlib.Core.Path.{sym}
 use denote.Ref.{now}
 use native.Mathlib.Omega.{arith}
-use Rattle.layout.proofs.Sections.{price-in, price-past}
+use Rattle.layout.proofs.Sections.{price-past}
+use Rattle.layout.proofs.Read.{price-read}
 use Rattle.layout.proofs.records.price.Statement.{statement}
 use Rattle.layout.proofs.records.price.Tie as tie
 
@@ -30,7 +31,7 @@ four-requires c κs = search needs
 returns-2 : tie.Need-returns-2
 returns-2 c =
     let a = c .before .before .before .before .before .args in
-    cc (price-in (now (a .file)) (a .h) (a .i) (omega arith))
+    price-read (now (a .file)) (a .h) (a .i) (omega arith) (c .before .step-prices-from .ensures .0) (c .four .ensures)
 
 pub price-spec : {M : Type 1} → statement M
 price-spec =

@@ -1,6 +1,6 @@
 -- In its section a record is read where it stands, and past the section is the one of zeros.
 use borrow.Author.Needs.{needs}
-use mathlib.Core.Path.{sym}
+use mathlib.Core.Path.{sym, _∙_}
 use denote.Ref.{now}
 use native.Mathlib.Omega.{arith}
 use Rattle.layout.proofs.Sections.{relation-at, relation-past}
@@ -27,7 +27,7 @@ relation-at-requires c κs = search needs
 returns-2 : tie.Need-returns-2
 returns-2 c =
     let a = c .before .before .before .before .args in
-    cc (relation-at (now (a .file)) (a .h) (a .i) (omega arith))
+    c .relation-at .ensures ∙ sym (relation-at (now (a .file)) (a .h) (a .i) (omega arith))
 
 pub relation-spec : {M : Type 1} → statement M
 relation-spec =

@@ -1,6 +1,7 @@
 -- Each field is read where the definition has it.
 use borrow.Author.Needs.{needs}
-use Rattle.layout.specs.Layout.{headerOf}
+use denote.Ref.{now}
+use Rattle.layout.proofs.Read.{header-made}
 use Rattle.layout.proofs.values.header.Statement.{statement}
 use Rattle.layout.proofs.values.header.Tie as tie
 
@@ -26,8 +27,16 @@ four-requires : tie.Need-four-requires
 four-requires c κs = search needs
 
 returns : tie.Need-returns
-unfolding headerOf
-returns c = cc
+returns c =
+    let b = c .before .before .before .before in
+    header-made (now (b .before .before .before .before .args .file))
+    (b .before .before .two .ensures)
+    (b .before .byte .ensures)
+    (b .byte2 .ensures)
+    (c .before .before .before .byte3 .ensures)
+    (c .before .before .byte4 .ensures)
+    (c .before .two2 .ensures)
+    (c .four .ensures)
 
 pub header-spec : {M : Type 1} → statement M
 header-spec =

@@ -3,7 +3,8 @@ use borrow.Author.Needs.{needs}
 use mathlib.Core.Path.{sym}
 use denote.Ref.{now}
 use native.Mathlib.Omega.{arith}
-use Rattle.layout.proofs.Sections.{link-price-in, link-price-past-from, link-price-past-to}
+use Rattle.layout.proofs.Sections.{link-price-past-from, link-price-past-to}
+use Rattle.layout.proofs.Read.{link-price-read}
 use Rattle.layout.proofs.values.link_price.Statement.{statement}
 use Rattle.layout.proofs.values.link_price.Tie as tie
 
@@ -38,7 +39,7 @@ price-requires c κs = search needs
 returns-3 : tie.Need-returns-3
 returns-3 c =
     let a = c .before .before .before .before .before .before .before .before .args in
-    cc (link-price-in (now (a .file)) (a .h) (a .p) (a .q) (omega arith) (omega arith))
+    link-price-read (now (a .file)) (a .h) (a .p) (a .q) (omega arith) (omega arith) (c .before .before .step-prices .ensures .0) (c .before .cell .ensures .0) (c .price .ensures)
 
 pub link-price-spec : {M : Type 1} → statement M
 link-price-spec =

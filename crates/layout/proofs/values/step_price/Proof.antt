@@ -3,7 +3,8 @@ use borrow.Author.Needs.{needs}
 use mathlib.Core.Path.{sym}
 use denote.Ref.{now}
 use native.Mathlib.Omega.{arith}
-use Rattle.layout.proofs.Sections.{step-price-in, step-price-past-nodes, step-price-past-subjects}
+use Rattle.layout.proofs.Sections.{step-price-past-nodes, step-price-past-subjects}
+use Rattle.layout.proofs.Read.{step-price-read}
 use Rattle.layout.proofs.values.step_price.Statement.{statement}
 use Rattle.layout.proofs.values.step_price.Tie as tie
 
@@ -32,7 +33,7 @@ price-requires c κs = search needs
 returns-3 : tie.Need-returns-3
 returns-3 c =
     let a = c .before .before .before .before .before .before .before .args in
-    cc (step-price-in (now (a .file)) (a .h) (a .i) (a .p) (omega arith) (omega arith))
+    step-price-read (now (a .file)) (a .h) (a .i) (a .p) (omega arith) (omega arith) (c .before .cell .ensures .0) (c .price .ensures)
 
 pub step-price-spec : {M : Type 1} → statement M
 step-price-spec =

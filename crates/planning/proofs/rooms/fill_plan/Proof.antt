@@ -1,7 +1,7 @@
 -- The arrays hold the built plan and its keys, and fill the rooms two by two.
 use denote.Ref.{now}
 use Rattle.layout.specs.Layout.{nightIn}
-use Rattle.planning.proofs.Planned.{plan-pairs, keys-pairs}
+use Rattle.planning.proofs.Planned.{plan-written, keys-written}
 use borrow.Author.Needs.{needs}
 use Rattle.planning.proofs.rooms.fill_plan.Statement.{statement}
 use Rattle.planning.proofs.rooms.fill_plan.Tie as tie
@@ -50,12 +50,15 @@ returns c =
     let tied = b .before .before .root-tied in
     let N = nightIn (now (a .file)) (a .h) in
     let subjects = now (a .choice) in
-    let plan = plan-pairs N (start .pre .0) subjects (opens .result) (seals .result) (tied .result) (opens .ensures) (seals .ensures) (tied .ensures) in
-    let keys =
-    keys-pairs N (start .pre .0) subjects (opens .result) (seals .result) (tied .result) (opens .ensures) (seals .ensures) (tied .ensures) (b .before .names .result) (b .holders .result)
-    (b .before .names .ensures subjects (opens .result)) (b .holders .ensures)
+    let plan =
+    plan-written N (start .pre .0) subjects (opens .result) (seals .result) (tied .result) (opens .ensures) (seals .ensures) (tied .ensures) (now (a .plan))
+    (c .before .before .before .before .before .before .fill-pairs .ensures)
     in
-    (rw (← plan) (c .before .before .before .before .before .before .fill-pairs .ensures), rw (← keys) (c .before .before .fill-pairs2 .ensures))
+    let keys =
+    keys-written N (start .pre .0) subjects (opens .result) (seals .result) (tied .result) (opens .ensures) (seals .ensures) (tied .ensures) (b .before .names .result) (b .holders .result)
+    (now (a .keys)) (b .before .names .ensures subjects (opens .result)) (b .holders .ensures) (c .before .before .fill-pairs2 .ensures)
+    in
+    (plan, keys)
 
 pub fill-plan-spec : {M : Type 1} → statement M
 fill-plan-spec =

@@ -2,7 +2,7 @@
 use borrow.Author.Needs.{needs}
 use Rattle.laws.specs.Trials.{verdict}
 use Rattle.laws.proofs.Cases.{cases}
-use Rattle.reading.specs.Trials.{headerTrials}
+use Rattle.trials.specs.Trials.{headerTrials}
 use Rattle.reading.proofs.header.header_tried.Statement.{statement}
 use Rattle.reading.proofs.header.header_tried.Tie as tie
 

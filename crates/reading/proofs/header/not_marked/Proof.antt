@@ -2,7 +2,7 @@
 use borrow.Author.Needs.{needs}
 use Rattle.laws.specs.Choose.{anyOf}
 use Rattle.laws.proofs.Cases.{cases}
-use Rattle.reading.specs.Trials.{notMarked}
+use Rattle.trials.specs.Trials.{notMarked}
 use Rattle.reading.proofs.header.not_marked.Statement.{statement}
 use Rattle.reading.proofs.header.not_marked.Tie as tie
 

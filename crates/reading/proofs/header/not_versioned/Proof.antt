@@ -2,7 +2,7 @@
 use borrow.Author.Needs.{needs}
 use Rattle.laws.specs.Choose.{anyOf}
 use Rattle.laws.proofs.Cases.{cases}
-use Rattle.reading.specs.Trials.{notVersioned}
+use Rattle.trials.specs.Trials.{notVersioned}
 use Rattle.reading.proofs.header.not_versioned.Statement.{statement}
 use Rattle.reading.proofs.header.not_versioned.Tie as tie
 

@@ -1,7 +1,7 @@
 -- A leaf by its relation, a step by what is visible in its operands.
 use borrow.Author.Needs.{needs}
 use Rattle.laws.proofs.Cases.{cases}
-use Rattle.reading.specs.Trials.{attributesBad}
+use Rattle.trials.specs.Trials.{attributesBad}
 use Rattle.layout.specs.Layout.{nightIn}
 use Rattle.reading.proofs.nodes.attributes_bad.Statement.{statement}
 use Rattle.reading.proofs.nodes.attributes_bad.Tie as tie

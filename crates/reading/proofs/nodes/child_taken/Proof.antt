@@ -1,67 +1,16 @@
--- The loop stops at the first node that has the child.
-use Rattle.laws.specs.First.{first}
-use Rattle.laws.proofs.First.{first-none, first-more, somewhere-found, somewhere-none}
-use native.Mathlib.Omega.{arith}
+-- What is looked for is what the definition looks for.
 use borrow.Author.Needs.{needs}
-use mathlib.Core.Path.{_≡_, sym}
-use mathlib.Core.Bool.{true, false}
-use Prim.Native.Nat.{_≤_, _-_}
-use Rattle.night.specs.Night.{nodeOf}
-use Rattle.layout.specs.Layout.{nightIn}
-use Rattle.night.specs.Kinds.{isChild, taken}
-use denote.Ref.{now}
+use Rattle.night.specs.Kinds.{taken}
+use Rattle.reading.specs.Taker.{isTaker}
 use Rattle.reading.proofs.nodes.child_taken.Statement.{statement}
 use Rattle.reading.proofs.nodes.child_taken.Tie as tie
 
-abbrev Inv-loop : tie.InvT-loop
-Inv-loop file h i c j₀ j = (j ≤ i) × (first (λ k. isChild (nodeOf (nightIn file h) k) c) j ≡ j)
+taken-by-requires : tie.Need-taken-by-requires
+taken-by-requires c κs = search needs
 
-abbrev μ-loop : tie.MeasureT-loop
-μ-loop file h i c j₀ j = i - j
-
-loop-holds : tie.Need-loop-holds Inv-loop μ-loop
-loop-holds c = (omega arith, first-none _)
-
-node-requires : tie.Need-node-requires Inv-loop μ-loop
-node-requires c κs = search needs
-
-is-child-requires : tie.Need-is-child-requires Inv-loop μ-loop
-is-child-requires c κs = search needs
-
-returns : tie.Need-returns Inv-loop μ-loop
-unfolding taken
-returns c =
-    let a = c .before .before .before .before .before .before .args in
-    let h : isChild (nodeOf (nightIn (now (a .file)) (a .h)) (c .before .before .before .before .loop .j)) (a .c) ≡ true = cc in
-    sym (somewhere-found _ (c .before .before .before .before .loop .j) (a .i) (c .before .before .before .before .loop .inv .1) h (omega arith))
-
-add-j : tie.Need-add-j Inv-loop μ-loop
-add-j c = omega arith
-
-loop-less : tie.Need-loop-less Inv-loop μ-loop
-loop-less c = omega arith
-
-loop-again : tie.Need-loop-again Inv-loop μ-loop
-loop-again c =
-    let a = c .before .before .before .before .before .before .args in
-    let h : isChild (nodeOf (nightIn (now (a .file)) (a .h)) (c .before .before .before .before .loop .j)) (a .c) ≡ false = cc in
-    (omega arith, first-more _ (c .before .before .before .before .loop .j) (c .before .before .before .before .loop .inv .1) h)
-
-returns-2 : tie.Need-returns-2 Inv-loop μ-loop
-unfolding taken
-returns-2 c = sym (somewhere-none _ (c .before .loop .j) (c .before .before .before .args .i) (c .before .loop .inv .1) (omega arith))
+returns : tie.Need-returns
+unfolding taken isTaker
+returns c = c .taken-by .ensures
 
 pub child-taken-spec : {M : Type 1} → statement M
-child-taken-spec =
-    tie.close
-    (tie.spec
-    Inv-loop
-    μ-loop
-    loop-holds
-    node-requires
-    is-child-requires
-    returns
-    add-j
-    loop-less
-    loop-again
-    returns-2)
+child-taken-spec = tie.close (tie.spec taken-by-requires returns)

@@ -1,6 +1,6 @@
 -- The tests are the definition's, in its order.
 use Rattle.laws.proofs.Cases.{cases}
-use Rattle.reading.specs.Trials.{isLeafOf}
+use Rattle.trials.specs.Trials.{isLeafOf}
 use Rattle.reading.proofs.nodes.is_leaf_of.Statement.{statement}
 use Rattle.reading.proofs.nodes.is_leaf_of.Tie as tie
 

@@ -1,7 +1,7 @@
 -- One trial.
 use borrow.Author.Needs.{needs}
 use Rattle.layout.specs.Layout.{nightIn}
-use Rattle.reading.specs.Trials.{trialsOf}
+use Rattle.trials.specs.Trials.{trialsOf}
 use Rattle.reading.proofs.nodes.parent_tried.Statement.{statement}
 use Rattle.reading.proofs.nodes.parent_tried.Tie as tie
 

@@ -2,7 +2,7 @@
 use borrow.Author.Needs.{needs}
 use Rattle.laws.proofs.Cases.{cases}
 use Rattle.layout.specs.Layout.{nightIn}
-use Rattle.reading.specs.Trials.{mostIn}
+use Rattle.trials.specs.Trials.{mostIn}
 use Rattle.reading.proofs.prices.most_in.Statement.{statement}
 use Rattle.reading.proofs.prices.most_in.Tie as tie
 

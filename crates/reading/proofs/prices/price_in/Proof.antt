@@ -2,7 +2,7 @@
 use borrow.Author.Needs.{needs}
 use Rattle.laws.proofs.Cases.{cases}
 use Rattle.layout.specs.Layout.{nightIn}
-use Rattle.reading.specs.Trials.{priceIn}
+use Rattle.trials.specs.Trials.{priceIn}
 use Rattle.reading.proofs.prices.price_in.Statement.{statement}
 use Rattle.reading.proofs.prices.price_in.Tie as tie
 

@@ -9,7 +9,7 @@ use Rattle.laws.specs.Trials.{trial, answers, verdict, rows}
 use Rattle.laws.proofs.Trials.{rows-none, rows-more, rows-found, rows-all}
 use Rattle.layout.specs.Layout.{nightIn}
 use Rattle.reading.specs.Answers.{triedOf}
-use Rattle.reading.specs.Trials.{priceIn, mostIn, trialsOf}
+use Rattle.trials.specs.Trials.{priceIn, mostIn, trialsOf}
 use native.Mathlib.Nat.{mul-le-mul}
 use Rattle.reading.proofs.prices.prices_tried.Statement.{statement}
 use Rattle.reading.proofs.prices.prices_tried.Tie as tie

@@ -1,6 +1,6 @@
 -- Two trials, the second where the first passes.
 use borrow.Author.Needs.{needs}
-use Rattle.reading.specs.Trials.{trialsOf}
+use Rattle.trials.specs.Trials.{trialsOf}
 use Rattle.layout.specs.Layout.{nightIn}
 use mathlib.Core.Path.{ap}
 use Rattle.laws.proofs.Trials.{stops-at, goes-on}

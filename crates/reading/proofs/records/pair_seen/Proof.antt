@@ -2,7 +2,7 @@
 use borrow.Author.Needs.{needs}
 use Rattle.laws.specs.First.{somewhere}
 use mathlib.Core.Path.{refl}
-use Rattle.reading.specs.Trials.{pairSeen}
+use Rattle.trials.specs.Trials.{pairSeen}
 use Rattle.reading.proofs.records.pair_seen.Statement.{statement}
 use Rattle.reading.proofs.records.pair_seen.Tie as tie
 

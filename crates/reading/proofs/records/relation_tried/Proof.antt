@@ -1,6 +1,6 @@
 -- One trial.
 use borrow.Author.Needs.{needs}
-use Rattle.reading.specs.Trials.{trialsOf}
+use Rattle.trials.specs.Trials.{trialsOf}
 use Rattle.layout.specs.Layout.{nightIn}
 use Rattle.reading.proofs.records.relation_tried.Statement.{statement}
 use Rattle.reading.proofs.records.relation_tried.Tie as tie

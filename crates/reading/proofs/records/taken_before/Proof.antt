@@ -7,7 +7,7 @@ use Rattle.sets.specs.Sets.{unions}
 use Rattle.sets.proofs.Words.{unions-none, unions-more}
 use Rattle.night.specs.Night.{relationOf}
 use Rattle.layout.specs.Layout.{nightIn}
-use Rattle.reading.specs.Trials.{takenBefore}
+use Rattle.trials.specs.Trials.{takenBefore}
 use Rattle.reading.proofs.records.taken_before.Statement.{statement}
 use Rattle.reading.proofs.records.taken_before.Tie as tie
 

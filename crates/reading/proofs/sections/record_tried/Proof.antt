@@ -2,7 +2,7 @@
 use borrow.Author.Needs.{needs}
 use native.Mathlib.Omega.{arith}
 use Prim.Native.Nat.{_+_, _-_, _<_}
-use Rattle.reading.specs.Trials.{countIn}
+use Rattle.trials.specs.Trials.{countIn}
 use Rattle.reading.proofs.sections.record_tried.Statement.{statement}
 use Rattle.reading.proofs.sections.record_tried.Tie as tie
 

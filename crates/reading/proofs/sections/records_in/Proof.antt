@@ -1,7 +1,7 @@
 -- Case by case.
 use borrow.Author.Needs.{needs}
 use mathlib.Core.Path.{refl}
-use Rattle.reading.specs.Trials.{countIn}
+use Rattle.trials.specs.Trials.{countIn}
 use Rattle.reading.proofs.sections.records_in.Statement.{statement}
 use Rattle.reading.proofs.sections.records_in.Tie as tie
 

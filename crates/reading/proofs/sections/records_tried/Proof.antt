@@ -4,7 +4,7 @@ use mathlib.Core.Path.{ap}
 use Rattle.laws.proofs.Trials.{stops-at, goes-on}
 use Rattle.layout.specs.Layout.{nightIn}
 use Rattle.reading.specs.Answers.{triedOf}
-use Rattle.reading.specs.Trials.{recordTrials}
+use Rattle.trials.specs.Trials.{recordTrials}
 use Rattle.reading.proofs.sections.records_tried.Statement.{statement}
 use Rattle.reading.proofs.sections.records_tried.Tie as tie
 

@@ -7,7 +7,7 @@ use Rattle.laws.specs.Trials.{answers, verdict, rows}
 use Rattle.laws.proofs.Trials.{rows-none, rows-more, rows-found, rows-all}
 use Rattle.layout.specs.Layout.{nightIn}
 use Rattle.reading.specs.Answers.{triedOf}
-use Rattle.reading.specs.Trials.{countIn, trialsOf, section}
+use Rattle.trials.specs.Trials.{countIn, trialsOf, section}
 use Rattle.reading.proofs.sections.section_tried.Statement.{statement}
 use Rattle.reading.proofs.sections.section_tried.Tie as tie
 

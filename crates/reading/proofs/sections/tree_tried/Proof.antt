@@ -3,7 +3,7 @@ use borrow.Author.Needs.{needs}
 use mathlib.Core.Path.{ap}
 use Rattle.laws.proofs.Trials.{stops-at, goes-on}
 use Rattle.reading.specs.Answers.{triedOf}
-use Rattle.reading.specs.Trials.{treeTrials}
+use Rattle.trials.specs.Trials.{treeTrials}
 use Rattle.reading.proofs.sections.tree_tried.Statement.{statement}
 use Rattle.reading.proofs.sections.tree_tried.Tie as tie
 

@@ -1,7 +1,9 @@
 -- The tests are the definition's, in its order, by what `has` ensures.
 use borrow.Author.Needs.{needs}
+use mathlib.Core.Path.{_≡_}
 use Rattle.laws.specs.Choose.{anyOf}
 use Rattle.laws.proofs.Cases.{cases}
+use Rattle.sets.specs.Sets.{member}
 use Rattle.rules.specs.Rules.{yBad}
 use Rattle.rules.proofs.nodes.y_bad.Statement.{statement}
 use Rattle.rules.proofs.nodes.y_bad.Tie as tie
@@ -18,7 +20,10 @@ has-requires-2 c κs = search needs
 
 returns-2 : tie.Need-returns-2
 unfolding yBad anyOf
-returns-2 c = rw (← c .has2 .ensures) (search cases depth 20)
+returns-2 c =
+    let a = c .before .before .before .before .before .args in
+    let there : c .has2 .result ≡ member (a .right) (a .v .y) = c .has2 .ensures in
+    rw (← there) (search cases depth 20)
 
 returns-3 : tie.Need-returns-3
 unfolding yBad anyOf

@@ -1,4 +1,9 @@
 -- The tests are the definition's, in its order.
+use mathlib.Core.Path.{_≡_}
+use mathlib.Core.Bool.{true}
+use native.Mathlib.Omega.{arith}
+use lib.Dec.{ltb}
+use borrow.Author.Tests.{lt-ltb}
 use Rattle.laws.specs.Choose.{anyOf}
 use Rattle.laws.proofs.Cases.{cases}
 use Rattle.rules.specs.Rules.{countsBad}
@@ -39,7 +44,11 @@ returns-8 c = search cases depth 20
 
 returns-9 : tie.Need-returns-9
 unfolding countsBad anyOf
-returns-9 c = search cases depth 20
+returns-9 c =
+    let relations = c .before .before .before .before .before .before .before .before .before .before .before .before in
+    let a = relations .before .before .before .before .before .before .args in
+    let many : ltb 272 (a .h .grants) ≡ true = lt-ltb 272 (a .h .grants) (omega arith) in
+    search cases depth 20
 
 returns-10 : tie.Need-returns-10
 unfolding countsBad anyOf

@@ -1,7 +1,9 @@
 -- The tests are the definition's, in its order, by what `subject_there`, `apart` and `within` ensure.
 use borrow.Author.Needs.{needs}
+use mathlib.Core.Path.{_≡_}
 use Rattle.laws.specs.Choose.{anyOf}
 use Rattle.laws.proofs.Cases.{cases}
+use Rattle.sets.specs.Sets.{within}
 use Rattle.rules.specs.Rules.{grantBad}
 use Rattle.rules.proofs.records.grant_bad.Statement.{statement}
 use Rattle.rules.proofs.records.grant_bad.Tie as tie
@@ -43,11 +45,13 @@ within-requires-2 c κs = search needs
 returns-5 : tie.Need-returns-5
 unfolding grantBad anyOf
 returns-5 c =
+    let a = c .before .before .before .before .before .before .before .before .before .before .args in
+    let inside : c .within2 .result ≡ within (a .v .sealed) (a .set) = c .within2 .ensures in
     rw (
       ← c .before .before .before .before .before .before .subject-there .ensures,
       ← c .before .before .before .before .apart .ensures,
       ← c .before .before .within .ensures,
-      ← c .within2 .ensures,
+      ← inside,
     )
     (search cases depth 20)
 

@@ -1,6 +1,6 @@
 -- The loop stops at the first attribute whose tied set offends.
 use Prim.Native.Nat.{_≤_, _-_}
-use mathlib.Core.Path.{_≡_, sym}
+use mathlib.Core.Path.{_≡_, sym, _∙_}
 use mathlib.Core.Bool.{true, false}
 use native.Mathlib.Omega.{arith}
 use borrow.Author.Needs.{needs}
@@ -33,7 +33,7 @@ unfolding tiedOffends
 returns c =
     let a = c .before .before .before .before .before .args in
     let b = c .before .before .before .before .loop in
-    let h : tiedOffends (a .t1) (a .clear) (a .sealed) (b .k) ≡ true = cc in
+    let h : tiedOffends (a .t1) (a .clear) (a .sealed) (b .k) ≡ true = sym (c .before .set-offends .ensures) ∙ c .if1 .taken in
     sym (somewhere-found _ (b .k) 64 (b .inv .1) h (omega arith))
 
 add-k : tie.Need-add-k Inv-loop μ-loop
@@ -47,7 +47,7 @@ unfolding tiedOffends
 loop-again c =
     let a = c .before .before .before .before .before .args in
     let b = c .before .before .before .before .loop in
-    let h : tiedOffends (a .t1) (a .clear) (a .sealed) (b .k) ≡ false = cc in
+    let h : tiedOffends (a .t1) (a .clear) (a .sealed) (b .k) ≡ false = sym (c .before .set-offends .ensures) ∙ c .if1 .left in
     (omega arith, first-more _ (b .k) (b .inv .1) h)
 
 returns-2 : tie.Need-returns-2 Inv-loop μ-loop

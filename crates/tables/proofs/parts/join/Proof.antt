@@ -1,6 +1,6 @@
 -- The record is the definition's.
 use borrow.Author.Needs.{needs}
-use Rattle.model.specs.Tables.{joined}
+use Rattle.tables.proofs.Made.{joined-made}
 use Rattle.tables.proofs.parts.join.Statement.{statement}
 use Rattle.tables.proofs.parts.join.Tie as tie
 
@@ -20,8 +20,10 @@ union-requires-4 : tie.Need-union-requires-4
 union-requires-4 c κs = search needs
 
 returns : tie.Need-returns
-unfolding joined
-returns c = cc
+returns c =
+    let b = c .before .before in
+    let a = b .before .before .before .before .before .args in
+    joined-made (a .t) (a .u) (b .before .union .ensures) (b .union2 .ensures) (c .before .union3 .ensures) (c .union4 .ensures) (b .before .before .merge .ensures)
 
 pub join-spec : {M : Type 1} → statement M
 join-spec =

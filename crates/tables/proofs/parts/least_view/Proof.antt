@@ -1,6 +1,6 @@
 -- The record is the definition's.
 use borrow.Author.Needs.{needs}
-use Rattle.model.specs.Tables.{leastView}
+use Rattle.tables.proofs.Made.{least-made}
 use Rattle.tables.proofs.parts.least_view.Statement.{statement}
 use Rattle.tables.proofs.parts.least_view.Tie as tie
 
@@ -14,8 +14,9 @@ minus-requires : tie.Need-minus-requires
 minus-requires c κs = search needs
 
 returns : tie.Need-returns
-unfolding leastView
-returns c = cc
+returns c =
+    let b = c .before .before .before in
+    least-made (b .before .args .needed) (b .before .args .t) (b .shown .ensures) (c .before .meet .ensures) (c .minus .ensures)
 
 pub least-view-spec : {M : Type 1} → statement M
 least-view-spec = tie.close (tie.spec shown-requires meet-requires minus-requires returns)

@@ -1,6 +1,6 @@
 -- The record is the definition's.
 use borrow.Author.Needs.{needs}
-use Rattle.model.specs.Tables.{result}
+use Rattle.tables.proofs.Made.{result-made}
 use Rattle.tables.proofs.parts.result.Statement.{statement}
 use Rattle.tables.proofs.parts.result.Tie as tie
 
@@ -29,8 +29,18 @@ union-requires-2 : tie.Need-union-requires-2
 union-requires-2 c κs = search needs
 
 returns : tie.Need-returns
-unfolding result
-returns c = cc
+returns c =
+    let b = c .before .before .before .before in
+    let a = b .before .before .before .before .before .args in
+    result-made (a .v) (a .after) (a .t)
+    (b .before .before .before .before .tests .ensures)
+    (b .before .meet .ensures)
+    (b .meet2 .ensures)
+    (c .before .before .before .meet3 .ensures)
+    (c .before .before .union .ensures)
+    (c .before .meet4 .ensures)
+    (c .union2 .ensures)
+    (b .before .before .tied-after .ensures)
 
 pub result-spec : {M : Type 1} → statement M
 result-spec =

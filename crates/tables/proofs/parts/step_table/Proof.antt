@@ -1,6 +1,6 @@
 -- The parts are the definition's.
 use borrow.Author.Needs.{needs}
-use Rattle.model.specs.Tables.{stepTable}
+use Rattle.tables.proofs.Made.{step-made}
 use Rattle.tables.proofs.parts.step_table.Statement.{statement}
 use Rattle.tables.proofs.parts.step_table.Tie as tie
 
@@ -20,8 +20,10 @@ result-requires : tie.Need-result-requires
 result-requires c κs = search needs
 
 returns : tie.Need-returns
-unfolding stepTable
-returns c = cc
+returns c =
+    let b = c .before .before in
+    let a = b .before .before .before .args in
+    step-made (a .v) (a .l) (a .r) (b .before .before .shown .ensures) (b .before .shown2 .ensures) (b .visible-after .ensures) (c .before .taken .ensures) (c .result .ensures)
 
 pub step-table-spec : {M : Type 1} → statement M
 step-table-spec =

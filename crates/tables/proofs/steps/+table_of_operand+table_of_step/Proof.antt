@@ -1,16 +1,13 @@
 -- A step's operand has a lower number: the measures are 2 i + 1 for step i and 2 i for its operands. Each table is what the laws of the tables say of leaves and steps.
 use Prim.Native.Nat.{ℕ, _+_, _*_, _<_}
-use mathlib.Core.Path.{_≡_}
 use native.Mathlib.Omega.{arith}
 use denote.Ref.{now}
 use borrow.Author.Needs.{needs}
 use borrow.Author.Tests.{lt-ltb, le-ltb}
 use borrow.Fn.Kinds.{In}
 use borrow.Fn.PlainCycle.{Measures, is, falls, and}
-use Rattle.night.specs.Night.{nodeOf}
-use Rattle.layout.specs.Layout.{nightIn}
 use Rattle.layout.proofs.values.node.Reads as node-reads
-use Rattle.tables.proofs.Nodes.{leaf-in, step-in}
+use Rattle.tables.proofs.Nodes.{leaf-read, no-leaf-read, step-in}
 use Rattle.tables.proofs.parts.leaf_table.Reads as leaf-table-reads
 use Rattle.tables.proofs.parts.no_table.Reads as no-table-reads
 use Rattle.tables.proofs.parts.step_table.Reads as step-table-reads
@@ -67,11 +64,13 @@ operand-leaf-table-requires t c κs = search needs
 operand-returns-2 : (t : ℕ) → operand-lts.Need-returns-2 (operand-calls t) (operand-at t) operand.Post
 operand-returns-2 t c =
     let a = c .before .before .before .before .before .before .args in
-    let e : nodeOf (nightIn (now (a .file)) (a .h)) (a .c) .kind ≡ 0 = cc in
-    rw (lt-ltb (a .c) (a .i) (omega arith)) (cc (leaf-in (now (a .file)) (a .h) (a .c) e))
+    rw (lt-ltb (a .c) (a .i) (omega arith))
+    (leaf-read (now (a .file)) (a .h) (a .c) (c .before .before .before .node .ensures) (c .before .if2 .taken) (c .leaf-table .ensures))
 
 operand-step-requires : (t : ℕ) → operand-lts.Need-table-of-step-requires (operand-calls t) (operand-at t) operand.Post
-operand-step-requires t c κs = (omega (arith, c .before .before .before .before .before .pre .0), λ e. c .if2 .left (cc e))
+operand-step-requires t c κs =
+    let b = c .before .before .before .before .before in
+    (omega (arith, b .pre .0), no-leaf-read (now (b .args .file)) (b .args .h) (b .args .c) (c .before .before .node .ensures) (c .if2 .left))
 
 operand-returns-3 : (t : ℕ) → operand-lts.Need-returns-3 (operand-calls t) (operand-at t) operand.Post
 operand-returns-3 t c =

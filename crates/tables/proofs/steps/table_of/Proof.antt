@@ -1,10 +1,7 @@
 -- A leaf's table where the kind is 0, else the step's.
-use mathlib.Core.Path.{_≡_}
 use denote.Ref.{now}
 use borrow.Author.Needs.{needs}
-use Rattle.night.specs.Night.{nodeOf}
-use Rattle.layout.specs.Layout.{nightIn}
-use Rattle.tables.proofs.Nodes.{leaf-in}
+use Rattle.tables.proofs.Nodes.{leaf-read, no-leaf-read}
 use Rattle.tables.proofs.steps.table_of.Statement.{statement}
 use Rattle.tables.proofs.steps.table_of.Tie as tie
 
@@ -17,11 +14,12 @@ leaf-table-requires c κs = search needs
 returns : tie.Need-returns
 returns c =
     let a = c .before .before .before .before .before .args in
-    let e : nodeOf (nightIn (now (a .file)) (a .h)) (a .i) .kind ≡ 0 = cc in
-    cc (leaf-in (now (a .file)) (a .h) (a .i) e)
+    leaf-read (now (a .file)) (a .h) (a .i) (c .before .before .before .node .ensures) (c .before .if1 .taken) (c .leaf-table .ensures)
 
 table-of-step-requires : tie.Need-table-of-step-requires
-table-of-step-requires c κs = λ e. c .if1 .left (cc e)
+table-of-step-requires c κs =
+    let a = c .before .before .before .before .args in
+    no-leaf-read (now (a .file)) (a .h) (a .i) (c .before .before .node .ensures) (c .if1 .left)
 
 returns-2 : tie.Need-returns-2
 returns-2 c = search needs

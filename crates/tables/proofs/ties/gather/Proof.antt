@@ -4,7 +4,8 @@ use mathlib.Core.Path.{_≡_, sym}
 use native.Mathlib.Omega.{arith}
 use borrow.Author.Needs.{needs}
 use Rattle.model.specs.Ties.{gathered}
-use Rattle.model.proofs.TableLaws.{gathered-none, gathered-more}
+use Rattle.model.proofs.TableLaws.{gathered-none}
+use Rattle.tables.proofs.Made.{gathered-turn}
 use Rattle.tables.proofs.ties.gather.Statement.{statement}
 use Rattle.tables.proofs.ties.gather.Tie as tie
 
@@ -43,8 +44,8 @@ loop-less c = omega arith
 
 loop-again : tie.Need-loop-again Inv-loop μ-loop
 loop-again c =
-    let a = c .before .before .before .before .before .args in
-    (omega arith, cc (gathered-more (a .t1) (a .set) (c .before .before .before .before .loop .k)))
+    let b = c .before .before .before .before in
+    (omega arith, gathered-turn (b .before .args .t1) (b .before .args .set) (b .loop .k) (b .loop .inv .1) (c .before .before .has .ensures) (c .before .union .ensures) (c .choose .ensures))
 
 returns : tie.Need-returns Inv-loop μ-loop
 returns c =

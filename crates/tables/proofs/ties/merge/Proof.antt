@@ -4,7 +4,8 @@ use mathlib.Core.Path.{_≡_, sym}
 use native.Mathlib.Omega.{arith}
 use borrow.Author.Needs.{needs}
 use Rattle.model.specs.Ties.{merged}
-use Rattle.model.proofs.TableLaws.{merged-none, merged-more}
+use Rattle.model.proofs.TableLaws.{merged-none}
+use Rattle.tables.proofs.Made.{merged-turn}
 use Rattle.tables.proofs.ties.merge.Statement.{statement}
 use Rattle.tables.proofs.ties.merge.Tie as tie
 
@@ -34,8 +35,8 @@ loop-less c = omega arith
 
 loop-again : tie.Need-loop-again Inv-loop μ-loop
 loop-again c =
-    let a = c .before .before .before .args in
-    (omega arith, cc (merged-more (a .tied) (a .t2) (c .before .before .loop .k)))
+    let b = c .before .before in
+    (omega arith, merged-turn (b .before .args .tied) (b .before .args .t2) (b .loop .k) (b .loop .inv .1) (c .tied-with .ensures))
 
 returns : tie.Need-returns Inv-loop μ-loop
 returns c =

@@ -11,6 +11,7 @@ use Rattle.laws.specs.Upwards.{each}
 use Rattle.laws.proofs.Upwards.{Agrees, agrees-none, agrees-more, each-length}
 use Rattle.sets.specs.Sets.{member}
 use Rattle.model.specs.Ties.{tie}
+use Rattle.tables.proofs.Made.{tied-turn}
 use Rattle.tables.proofs.ties.tied_with.Statement.{statement}
 use Rattle.tables.proofs.ties.tied_with.Tie as tie
 
@@ -61,8 +62,9 @@ loop-again : tie.Need-loop-again Inv-loop μ-loop
 loop-again c =
     let a = c .before .before .before .before .before .args in
     let b = c .before .before .before .loop in
-    let f = tiedAt (a .t1) (c .before .before .before .before .gather .result) in
-    let e : c .choose .result ≡ f (b .k) = cc in
+    let all = c .before .before .before .before .gather .result in
+    let f = tiedAt (a .t1) all in
+    let e : c .choose .result ≡ f (b .k) = tied-turn (a .t1) all (b .k) (c .before .has .ensures) (c .choose .ensures) in
     (simp length-set (b .inv .0), omega arith, agrees-more (λ before. f) 0 (b .k) (c .choose .result) (b .next) (omega arith) (b .inv .2) e)
 
 returns : tie.Need-returns Inv-loop μ-loop

@@ -1,0 +1,2 @@
+-- What the code of a node's candidates asks.
+pub mod Asked

@@ -1,0 +1,57 @@
+-- Two choices of the same total, by computation.
+use Prim.Native.Nat.{ℕ, zero, suc, _<_}
+use mathlib.Core.Path.{_≡_, refl, sym}
+use native.Mathlib.Omega.{arith}
+use Rattle.laws.specs.Choose.{anyOf}
+use Rattle.laws.specs.First.{first, somewhere}
+use Rattle.laws.specs.Sums.{sum}
+use Rattle.laws.specs.Upwards.{upwards}
+use Rattle.sets.specs.Sets.{In, bit, member, union, meet, minus, within, single, unions}
+use Rattle.night.specs.Night.{relationOf, grantOf, nodeOf, stepPrice, linkPrice}
+use Rattle.night.specs.Kinds.{usesLeft, usesRight, reads, readTogether, visibleAfter}
+use Rattle.night.specs.Views.{isFor, grantFor, viewOf, clearOf, sealedOf}
+use Rattle.model.specs.Ties.{gathered, tie, merged}
+use Rattle.model.specs.Tables.{leastView, tests, ties, joined, result, leafTable, stepTable, tableStep, tables, tableOf}
+use Rattle.model.specs.Candidates.{clearOffends, sealedOffends, tiedOffends, may, mayTake, isCandidate, candidateSet}
+use Rattle.model.specs.Choice.{Choice, Admissible, ownerOf, handed, costAt, total}
+use Rattle.model.specs.Order.{evenNight, smallerLast, smallerFirst, ReadFromLast}
+
+-- everyone may run both steps
+everyone : (candidateSet evenNight 1 ≡ 7) × (candidateSet evenNight 2 ≡ 7)
+unfolding anyOf first somewhere upwards bit member union meet minus within single unions grantOf nodeOf usesRight reads readTogether visibleAfter isFor grantFor viewOf clearOf sealedOf gathered tie merged leastView tests ties joined result leafTable stepTable tableStep tables tableOf clearOffends sealedOffends tiedOffends may mayTake isCandidate candidateSet
+everyone = (refl, refl)
+
+-- so a choice with the owner at the leaf and subjects that are there is admissible
+admitted : (c : Choice) → c 0 ≡ 0 → In (c 1) 7 → In (c 2) 7 → Admissible evenNight c
+unfolding relationOf nodeOf
+admitted c e f g = record { leaf = owners; step = chosen }
+  where
+    owners : (i : ℕ) → i < 3 → nodeOf evenNight i .kind ≡ 0 → c i ≡ ownerOf evenNight i
+    owners zero l k = e
+    owners (suc zero) l k = absurd (omega arith)
+    owners (suc (suc zero)) l k = absurd (omega arith)
+    owners (suc (suc (suc i))) l k = absurd (omega arith)
+
+    chosen : (i : ℕ) → i < 3 → (nodeOf evenNight i .kind ≡ 0 → ⊥) → In (c i) (candidateSet evenNight i)
+    chosen zero l k = absurd (k refl)
+    chosen (suc zero) l k = rw (everyone .0) f
+    chosen (suc (suc zero)) l k = rw (everyone .1) g
+    chosen (suc (suc (suc i))) l k = absurd (omega arith)
+
+last-may : Admissible evenNight smallerLast
+unfolding bit
+last-may = admitted smallerLast refl refl refl
+
+same-total : total evenNight smallerFirst ≡ total evenNight smallerLast
+unfolding anyOf sum nodeOf stepPrice linkPrice usesLeft usesRight handed costAt total
+same-total = refl
+
+pub read-from-last : ReadFromLast
+unfolding bit
+read-from-last =
+    record {
+      last-may = last-may;
+      first-may = admitted smallerFirst refl refl refl;
+      same-total = same-total;
+      first-not = λ L. L .earliest smallerLast last-may (sym same-total) (record { node = 2; there = omega arith; smaller = omega arith; same-after = λ j l m. absurd (omega arith) });
+    }

@@ -1,0 +1,4 @@
+-- The computed runs.
+pub mod Forms
+pub mod Computed
+pub mod Harmless

@@ -1,0 +1,182 @@
+-- Runs on small nights: for each clause of the run one that it makes unclean, by it alone where a run can tell; some that are clean; keys over a chain.
+use Prim.Native.Nat.{ℕ}
+use mathlib.Core.Path.{_≡_}
+use mathlib.Core.List.{List, [], _∷_}
+use lib.ListN.{length, getD}
+use Rattle.sets.specs.Sets.{meet, minus}
+use Rattle.night.specs.declared.Node.{Node}
+use Rattle.night.specs.Night.{Night}
+use Rattle.run.specs.Keys.{Plan}
+use Rattle.run.specs.Run.{leftArrives, keyOf, holders, Stuck, Forbidden, ForbiddenAt, Clean}
+
+-- a node by kind, left, right, x, y, set and needed
+abbrev pub node : ℕ → ℕ → ℕ → ℕ → ℕ → ℕ → ℕ → Node
+node kind left right x y set needed =
+    record { kind = kind; left = left; right = right; x = x; y = y; spare1 = 0; spare2 = 0; spare3 = 0; set = set; needed = needed; size = 0 }
+
+-- the kinds that the nights here have
+abbrev pub leaf : ℕ → ℕ → Node
+leaf relation set = node 0 255 255 relation 255 set 0
+
+abbrev pub project : ℕ → ℕ → Node
+project left set = node 1 left 255 255 255 set 0
+
+abbrev pub select : ℕ → ℕ → ℕ → Node
+select left x needed = node 2 left 255 x 255 0 needed
+
+abbrev pub compare : ℕ → ℕ → ℕ → Node
+compare left x y = node 3 left 255 x y 0 0
+
+abbrev pub product : ℕ → ℕ → Node
+product left right = node 4 left right 255 255 0 0
+
+abbrev pub join : ℕ → ℕ → ℕ → ℕ → Node
+join left right x y = node 5 left right x y 0 0
+
+abbrev pub group : ℕ → ℕ → ℕ → Node
+group left set x = node 6 left 255 x 255 set 0
+
+abbrev pub count : ℕ → ℕ → Node
+count left set = node 7 left 255 255 255 set 0
+
+abbrev pub function : ℕ → ℕ → ℕ → Node
+function left set x = node 8 left 255 x 255 set 0
+
+-- subject 0 owns {0, 1} and {2, 3} and sees all in clear; one other subject sees P in clear and E sealed
+unfoldable pub seenBy : ℕ → ℕ → ℕ → List Node → Night
+seenBy other P E nodes =
+    record {
+      header = record { version = 1; subjects = 2; relations = 2; attributes = 4; nodes = length nodes; grants = 4; steps = 0 };
+      relations = record { owner = 0; set = 3 } ∷ record { owner = 0; set = 12 } ∷ [];
+      grants =
+          record { relation = 0; subject = 0; clear = 3; sealed = 0 }
+          ∷ record { relation = 1; subject = 0; clear = 12; sealed = 0 }
+          ∷ record { relation = 0; subject = other; clear = meet P 3; sealed = meet E 3 }
+          ∷ record { relation = 1; subject = other; clear = minus P 3; sealed = minus E 3 }
+          ∷ [];
+      nodes = nodes;
+      stepPrices = [];
+      linkPrices = [];
+    }
+
+-- the other is subject 1
+abbrev pub seen : ℕ → ℕ → List Node → Night
+seen P E nodes = seenBy 1 P E nodes
+
+-- subjects, openings and sealings of the nodes in order
+unfoldable pub plan : List ℕ → List ℕ → List ℕ → Plan
+plan subjects opens seals = record { subject = λ i. getD subjects i 0; opens = λ i. getD opens i 0; seals = λ i. getD seals i 0 }
+
+-- the run of the plan isn't clean
+abbrev pub Unclean : Night → Plan → Type 0
+Unclean N p = Clean N p → ⊥
+
+-- a leaf of {0, 1} and a project to it
+abbrev pub two : List Node
+two = leaf 0 3 ∷ project 0 3 ∷ []
+
+-- the same for a leaf of {0}
+abbrev pub alone : List Node
+alone = leaf 0 1 ∷ project 0 1 ∷ []
+
+-- a leaf of {0, 1}, a step on it, and attribute 1 alone handed on
+abbrev pub handsOn : Node → List Node
+handsOn step = leaf 0 3 ∷ step ∷ project 1 2 ∷ project 2 2 ∷ []
+
+-- attributes 0 and 1 tied, then 1 and 2, of which only attribute 1 is handed on
+abbrev pub chained : List Node
+chained = leaf 0 3 ∷ compare 0 0 1 ∷ leaf 1 12 ∷ join 1 2 1 2 ∷ project 3 2 ∷ project 4 2 ∷ []
+
+-- the same, and then 2 and 3 tied
+abbrev pub longer : List Node
+longer = leaf 0 3 ∷ compare 0 0 1 ∷ leaf 1 12 ∷ join 1 2 1 2 ∷ compare 3 2 3 ∷ project 4 2 ∷ project 5 2 ∷ []
+
+-- attributes 0 and 64, of which the second is none
+abbrev pub beyond : ℕ
+beyond = 18446744073709551617
+
+-- leaves of {0} and {2}, and a join on them
+abbrev pub joined : List Node
+joined = leaf 0 1 ∷ leaf 1 4 ∷ join 0 1 0 2 ∷ []
+
+-- Sets are numbers: 1 is {0}, 2 is {1}, 3 is {0, 1}, 4 is {2}, 5 is {0, 2}, 6 is {1, 2}, 12 is {2, 3}. Where a run is stuck the other
+-- subject sees all in clear, so that nothing is forbidden; where it is forbidden, nothing is stuck.
+pub record Runs : Type 0 where
+  -- stuck: node 1 seals attribute 0, which node 0 sealed
+  pub seals-twice : Unclean (seen 3 0 two) (plan (0 ∷ 1 ∷ []) [] (1 ∷ 1 ∷ []))
+  -- a leaf of {0} seals attribute 1, which it lacks
+  pub leaf-seals-absent : Unclean (seen 3 0 alone) (plan (0 ∷ 1 ∷ []) [] (2 ∷ []))
+  -- a step seals attribute 0, which it projects away
+  pub step-seals-absent : Unclean (seen 3 0 (leaf 0 3 ∷ project 0 2 ∷ [])) (plan (0 ∷ 1 ∷ []) [] (0 ∷ 1 ∷ []))
+  -- node 1 opens attribute 0, which arrives clear; attribute 1, which does not arrive; a leaf opens attribute 0
+  pub opens-clear : Unclean (seen 3 0 two) (plan (0 ∷ 1 ∷ []) (0 ∷ 1 ∷ []) [])
+  pub opens-absent : Unclean (seen 3 0 alone) (plan (0 ∷ 1 ∷ []) (0 ∷ 2 ∷ []) [])
+  pub leaf-opens : Unclean (seen 3 0 two) (plan (0 ∷ 1 ∷ []) (1 ∷ []) [])
+  -- node 1 opens attribute 0 and is no holder of its key: subject 16 is in no set of subjects
+  pub opens-unheld : Unclean (seenBy 16 3 0 two) (plan (0 ∷ 16 ∷ []) (0 ∷ 1 ∷ []) (1 ∷ []))
+  -- node 1 needs attribute 0, which arrives sealed and is not opened
+  pub needs-sealed : Unclean (seen 3 0 (leaf 0 3 ∷ select 0 0 1 ∷ [])) (plan (0 ∷ 1 ∷ []) [] (1 ∷ []))
+  -- a select of 0 with 1, a join on 0 and 2, a user function over {0, 1}, where one of them is sealed and the other clear
+  pub compare-mixed : Unclean (seen 3 0 (leaf 0 3 ∷ compare 0 0 1 ∷ [])) (plan (0 ∷ 1 ∷ []) [] (1 ∷ []))
+  pub join-mixed : Unclean (seen 15 0 joined) (plan (0 ∷ 0 ∷ 1 ∷ []) [] (1 ∷ []))
+  pub function-mixed : Unclean (seen 3 0 (leaf 0 3 ∷ function 0 3 0 ∷ [])) (plan (0 ∷ 1 ∷ []) [] (2 ∷ []))
+  -- both arrive sealed, and one of them is opened
+  pub opened-half : Unclean (seen 3 0 (leaf 0 3 ∷ compare 0 0 1 ∷ [])) (plan (0 ∷ 1 ∷ []) (0 ∷ 1 ∷ []) (3 ∷ []))
+  -- a user function over {0, 64}, sealed under two keys: 64 is no attribute, and so is grouped with nothing
+  pub two-keys :
+      Unclean (seen beyond 0 (leaf 0 beyond ∷ function 0 beyond 0 ∷ [])) (plan (0 ∷ 1 ∷ []) [] (beyond ∷ []))
+  -- forbidden: attribute 0 arrives clear, which subject 1 sees sealed; arrives sealed, which it doesn't see; on the left, where the
+  -- result lacks it, and on the right
+  pub clear-left : Unclean (seen 2 1 (leaf 0 3 ∷ project 0 2 ∷ [])) (plan (0 ∷ 1 ∷ []) [] (2 ∷ []))
+  pub sealed-left : Unclean (seen 2 0 (leaf 0 3 ∷ project 0 2 ∷ [])) (plan (0 ∷ 1 ∷ []) [] (3 ∷ []))
+  pub clear-right : Unclean (seen 4 1 (leaf 1 4 ∷ leaf 0 1 ∷ product 0 1 ∷ [])) (plan (0 ∷ 0 ∷ 1 ∷ []) [] [])
+  pub sealed-right : Unclean (seen 4 0 (leaf 1 4 ∷ leaf 0 1 ∷ product 0 1 ∷ [])) (plan (0 ∷ 0 ∷ 1 ∷ []) [] (0 ∷ 1 ∷ []))
+  -- a step that needs nothing opens attribute 0, which its subject sees sealed: only the table after opening forbids, for it isn't in the result
+  pub opened-left : Unclean (seen 2 1 (leaf 0 3 ∷ project 0 2 ∷ [])) (plan (0 ∷ 1 ∷ []) (0 ∷ 1 ∷ []) (3 ∷ []))
+  -- the same on the right, where the result shows it too
+  pub opened-right : Unclean (seen 4 1 (leaf 1 4 ∷ leaf 0 1 ∷ product 0 1 ∷ [])) (plan (0 ∷ 0 ∷ 1 ∷ []) (0 ∷ 0 ∷ 1 ∷ []) (0 ∷ 1 ∷ []))
+  -- attribute 0 was tested in clear by a select, a group, a count, and subject 1 sees it sealed; the column itself is gone
+  pub select-clear : Unclean (seen 2 1 (handsOn (select 0 0 0))) (plan (0 ∷ 0 ∷ 0 ∷ 1 ∷ []) [] [])
+  pub group-clear : Unclean (seen 2 1 (handsOn (group 0 1 1))) (plan (0 ∷ 0 ∷ 0 ∷ 1 ∷ []) [] [])
+  pub count-clear : Unclean (seen 2 1 (handsOn (count 0 3))) (plan (0 ∷ 0 ∷ 0 ∷ 1 ∷ []) [] [])
+  -- it was tested sealed, and subject 1 doesn't see it
+  pub select-sealed : Unclean (seen 2 0 (handsOn (select 0 0 0))) (plan (0 ∷ 0 ∷ 0 ∷ 1 ∷ []) [] (1 ∷ []))
+  pub group-sealed : Unclean (seen 2 0 (handsOn (group 0 1 1))) (plan (0 ∷ 0 ∷ 0 ∷ 1 ∷ []) [] (1 ∷ []))
+  pub count-sealed : Unclean (seen 2 0 (handsOn (count 0 3))) (plan (0 ∷ 0 ∷ 0 ∷ 1 ∷ []) [] (1 ∷ []))
+  -- attributes 0 and 1 tied, of which it sees one in clear and one sealed; by a select, a user function
+  pub compare-tied : Unclean (seen 2 1 (handsOn (compare 0 0 1))) (plan (0 ∷ 0 ∷ 0 ∷ 1 ∷ []) [] [])
+  pub function-tied : Unclean (seen 2 1 (handsOn (function 0 3 1))) (plan (0 ∷ 0 ∷ 0 ∷ 1 ∷ []) [] [])
+  -- attribute 0 tied only to itself, which it doesn't see
+  pub tied-alone : Unclean (seen 2 0 (handsOn (compare 0 0 0))) (plan (0 ∷ 0 ∷ 0 ∷ 1 ∷ []) [] [])
+  -- only the result: a join ties 0, which its subject sees in clear, with 2, which it sees sealed
+  pub tied-result : Unclean (seen 1 4 joined) (plan (0 ∷ 0 ∷ 1 ∷ []) [] (1 ∷ 4 ∷ []))
+  -- only the chain: {0, 1} lies in P, {1, 2} in both, {2, 3} in E, and all four in neither
+  pub chain : Unclean (seen 7 14 longer) (plan (0 ∷ 0 ∷ 0 ∷ 0 ∷ 0 ∷ 0 ∷ 1 ∷ []) [] [])
+  -- at their nodes: a leaf and a step that are stuck, a step that is forbidden
+  pub stuck-leaf : Stuck (seen 3 0 two) (plan (0 ∷ 1 ∷ []) (1 ∷ []) []) 0
+  pub stuck-step : Stuck (seen 3 0 two) (plan (0 ∷ 1 ∷ []) [] (1 ∷ 1 ∷ [])) 1
+  pub forbidden-step : ForbiddenAt (seen 1 4 joined) (plan (0 ∷ 0 ∷ 1 ∷ []) [] (1 ∷ 4 ∷ [])) 2
+  -- one key, 0, for attributes 0, 1 and 2, linked by two ties; where 0 is never sealed, 1 names it and 0 has none; 3 has its own; holders
+  -- seal or open one of the key's, not one that is linked and never sealed
+  pub chain-key : keyOf (seen 9 6 chained) (plan (0 ∷ 0 ∷ 0 ∷ 0 ∷ 0 ∷ 1 ∷ []) [] (3 ∷ 0 ∷ 12 ∷ [])) 2 ≡ 0
+  pub chain-key-unsealed : keyOf (seen 9 6 chained) (plan (0 ∷ 0 ∷ 0 ∷ 0 ∷ 0 ∷ 1 ∷ []) [] (2 ∷ 0 ∷ 12 ∷ [])) 2 ≡ 1
+  pub no-key : keyOf (seen 9 6 chained) (plan (0 ∷ 0 ∷ 0 ∷ 0 ∷ 0 ∷ 1 ∷ []) [] (2 ∷ 0 ∷ 12 ∷ [])) 0 ≡ 64
+  pub own-key : keyOf (seen 9 6 chained) (plan (0 ∷ 0 ∷ 0 ∷ 0 ∷ 0 ∷ 1 ∷ []) [] (3 ∷ 0 ∷ 12 ∷ [])) 3 ≡ 3
+  pub chain-holders : holders (seen 9 6 chained) (plan (0 ∷ 1 ∷ 0 ∷ 0 ∷ 0 ∷ 1 ∷ []) (0 ∷ 1 ∷ []) (3 ∷ 0 ∷ 12 ∷ [])) 2 ≡ 3
+  pub unsealed-holders : holders (seen 9 6 chained) (plan (0 ∷ 1 ∷ 0 ∷ 0 ∷ 0 ∷ 1 ∷ []) (0 ∷ 1 ∷ []) (2 ∷ 0 ∷ 12 ∷ [])) 2 ≡ 1
+  pub own-holders : holders (seen 9 6 chained) (plan (0 ∷ 1 ∷ 0 ∷ 0 ∷ 0 ∷ 1 ∷ []) (0 ∷ 1 ∷ []) (3 ∷ 0 ∷ 12 ∷ [])) 3 ≡ 1
+
+-- and what must not be refused
+pub record CleanRuns : Type 0 where
+  -- clean: nothing is sealed; the root seals; a step opens what it doesn't need
+  pub unsealed-clean : Clean (seen 3 0 two) (plan (0 ∷ 1 ∷ []) [] [])
+  pub root-seals : Clean (seen 3 0 two) (plan (0 ∷ 1 ∷ []) [] (0 ∷ 3 ∷ []))
+  pub opens-more : Clean (seen 3 0 two) (plan (0 ∷ 1 ∷ []) (0 ∷ 3 ∷ []) (3 ∷ []))
+  -- not stuck: a step needs what arrives clear; it opens the one that is sealed of two that it reads together
+  pub needs-clear : Stuck (seen 3 0 (leaf 0 3 ∷ select 0 0 1 ∷ [])) (plan (0 ∷ 1 ∷ []) [] []) 1 → ⊥
+  pub opened-together : Stuck (seen 3 0 (leaf 0 3 ∷ compare 0 0 1 ∷ [])) (plan (0 ∷ 1 ∷ []) (0 ∷ 1 ∷ []) (1 ∷ [])) 1 → ⊥
+  -- not forbidden: a leaf's subject sees nothing of its table; attribute 0 was tested sealed, and subject 1 sees it sealed
+  pub leaf-unasked : ForbiddenAt (seen 0 0 two) (plan (1 ∷ 0 ∷ []) [] []) 0 → ⊥
+  pub seen-sealed :
+      Forbidden (seen 2 1 (handsOn (select 0 0 0)))
+      (leftArrives (seen 2 1 (handsOn (select 0 0 0))) (plan (0 ∷ 0 ∷ 0 ∷ 1 ∷ []) [] (1 ∷ [])) 3) 2 1 → ⊥

@@ -1,0 +1,95 @@
+-- The table of verdicts, row by row, by computation.
+use mathlib.Core.Path.{refl}
+use Rattle.laws.specs.BigEndian.{be}
+use Rattle.laws.specs.Choose.{anyOf}
+use Rattle.laws.specs.First.{first, somewhere}
+use Rattle.laws.specs.Trials.{verdict, rows}
+use Rattle.laws.specs.Upwards.{upwards}
+use Rattle.sets.specs.Sets.{bit, member, union, meet, minus, within, apart, below, single, unions}
+use Rattle.night.specs.Night.{relationOf, grantOf, nodeOf, stepPrice, linkPrice}
+use Rattle.night.specs.Kinds.{usesLeft, usesRight, usesX, usesY, usesSet, reads, readTogether, visibleAfter, visibleStep, visibles, isChild, taken}
+use Rattle.night.specs.Views.{isFor, grantFor, viewOf}
+use Rattle.rules.specs.Rules.{countsBad, relationBad, leftOver, subjectThere, grantBad, ownerBad, childBad, leftBad, rightBad, unusedBad, shapeBad, leafBad, xBad, yBad, setBad, placeBad, stepBad, half, neededBad, mostForStep, mostForLink}
+use Rattle.layout.specs.Layout.{grantsFrom, nodesFrom, stepPricesFrom, linkPricesFrom, fileLength, headerOf, relationAt, grantAt, nodeAt, pricesAt, nightIn}
+use Rattle.trials.specs.Trials.{notMarked, notVersioned, headerTrials, takenBefore, pairSeen, isLeafOf, leafBefore, attributesBad, priceIn, mostIn, countIn, trialsOf, section, recordTrials, treeTrials, trials, checkOf}
+use Rattle.trials.specs.Sample.{sample}
+use Rattle.trials.specs.Small.{small}
+use Rattle.trials.specs.Verdicts.{FileVerdicts}
+
+pub file-verdicts : FileVerdicts
+unfolding anyOf be first somewhere verdict rows upwards bit member union meet minus within apart below single unions relationOf grantOf nodeOf stepPrice linkPrice usesLeft usesRight usesX usesY usesSet reads readTogether visibleAfter visibleStep visibles isChild taken isFor grantFor viewOf countsBad relationBad leftOver subjectThere grantBad ownerBad childBad leftBad rightBad unusedBad shapeBad leafBad xBad yBad setBad placeBad stepBad half neededBad mostForStep mostForLink grantsFrom nodesFrom stepPricesFrom linkPricesFrom fileLength headerOf relationAt grantAt nodeAt pricesAt nightIn notMarked notVersioned headerTrials takenBefore pairSeen isLeafOf leafBefore attributesBad priceIn mostIn countIn trialsOf section recordTrials treeTrials trials checkOf sample small
+file-verdicts =
+    record {
+      accepted = refl;
+      sample-accepted = refl;
+      mark-short = refl;
+      mark-first = refl;
+      mark-second = refl;
+      mark-third = refl;
+      mark-before-version = refl;
+      version-short = refl;
+      version-other = refl;
+      version-high = refl;
+      version-before-header = refl;
+      header-short = refl;
+      header-before-counts = refl;
+      subjects-none = refl;
+      relations-many = refl;
+      attributes-many = refl;
+      nodes-many = refl;
+      grants-many = refl;
+      counts-before-length = refl;
+      length-less = refl;
+      length-more = refl;
+      length-before-relations = refl;
+      owner-missing = refl;
+      relation-empty = refl;
+      attribute-high = refl;
+      attribute-taken = refl;
+      relations-in-order = refl;
+      left-over = refl;
+      relations-before-left = refl;
+      left-before-grants = refl;
+      grant-relation = refl;
+      grant-subject = refl;
+      grant-both = refl;
+      grant-outside = refl;
+      pair-seen = refl;
+      pair-any-seen = refl;
+      pair-whatever = refl;
+      bad-before-pair = refl;
+      pair-before-next = refl;
+      grants-before-owners = refl;
+      owner-blind = refl;
+      owner-own = refl;
+      owners-in-order = refl;
+      owners-before-nodes = refl;
+      kind-unknown = refl;
+      child-itself = refl;
+      children-same = refl;
+      child-taken = refl;
+      unused-filled = refl;
+      spare-filled = refl;
+      spare-second = refl;
+      size-high = refl;
+      leaf-relation = refl;
+      leaf-taken = refl;
+      leaf-outside = refl;
+      attribute-hidden = refl;
+      needed-unread = refl;
+      needed-half = refl;
+      shape-before-attributes = refl;
+      attributes-before-needed = refl;
+      attributes-before-next = refl;
+      needed-before-next = refl;
+      parent-none = refl;
+      parent-lowest = refl;
+      nodes-before-parents = refl;
+      parents-before-prices = refl;
+      leaf-price = refl;
+      step-price = refl;
+      link-price = refl;
+      link-itself = refl;
+      prices-in-order = refl;
+      steps-before-links = refl;
+    }

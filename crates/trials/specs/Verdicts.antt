@@ -1,0 +1,105 @@
+-- What `check` says of the small file and of its neighbours: each number with its place, and, where two conditions hold, the earlier one.
+use Prim.Native.Nat.{ℕ}
+use mathlib.Core.Path.{_≡_}
+use mathlib.Core.List.{List, [], _∷_, _++_}
+use lib.ListN.{take, set}
+use Rattle.laws.specs.Trials.{answers, refuses}
+use Rattle.trials.specs.Trials.{checkOf}
+use Rattle.trials.specs.Sample.{sample}
+use Rattle.trials.specs.Small.{small, relationByte, grantByte, nodeByte, priceByte, parentless, twoParentless}
+
+-- the file is refused with this number and place
+abbrev pub Refused : List ℕ → ℕ → ℕ → Type 0
+Refused s number place = checkOf s ≡ refuses number place
+
+-- 1 to 11
+pub record FileVerdicts : Type 0 where
+  -- accepted: the small file, and the sample night
+  pub accepted : checkOf small ≡ answers (record { version = 1; subjects = 2; relations = 2; attributes = 2; nodes = 4; grants = 4; steps = 6 })
+  pub sample-accepted : checkOf sample ≡ answers (record { version = 1; subjects = 6; relations = 2; attributes = 6; nodes = 6; grants = 14; steps = 76 })
+  -- 1: fewer than 3 bytes, or not the mark; before 2
+  pub mark-short : Refused (take 2 small) 1 0
+  pub mark-first : Refused (set small 0 66) 1 0
+  pub mark-second : Refused (set small 1 89) 1 0
+  pub mark-third : Refused (set small 2 81) 1 0
+  pub mark-before-version : Refused (set (set small 2 81) 4 2) 1 0
+  -- 2: fewer than 5 bytes, or version not 1; before 3
+  pub version-short : Refused (take 4 small) 2 0
+  pub version-other : Refused (set small 4 2) 2 0
+  pub version-high : Refused (set small 3 1) 2 0
+  pub version-before-header : Refused (take 14 (set small 4 2)) 2 0
+  -- 3: fewer than 15 bytes; before 4
+  pub header-short : Refused (take 14 small) 3 0
+  pub header-before-counts : Refused (take 14 (set small 5 0)) 3 0
+  -- 4: a count outside its limits; before 3 for the length
+  pub subjects-none : Refused (set small 5 0) 4 0
+  pub relations-many : Refused (set small 6 17) 4 0
+  pub attributes-many : Refused (set small 7 65) 4 0
+  pub nodes-many : Refused (set small 8 65) 4 0
+  pub grants-many : Refused (set (set small 9 1) 10 17) 4 0
+  pub counts-before-length : Refused (take 15 (set small 5 0)) 4 0
+  -- 3, after 4: a length other than the counts give; before 5
+  pub length-less : Refused (take 264 small) 3 0
+  pub length-more : Refused (small ++ (0 ∷ [])) 3 0
+  pub length-before-relations : Refused (take 264 (set small (relationByte 0 0) 2)) 3 0
+  -- 5: a relation's owner, its set empty, with an attribute not below a, or with one already taken; the relation's number, the lowest first
+  pub owner-missing : Refused (set small (relationByte 1 0) 2) 5 1
+  pub relation-empty : Refused (set small (relationByte 0 8) 0) 5 0
+  pub attribute-high : Refused (set small (relationByte 1 8) 6) 5 1
+  pub attribute-taken : Refused (set small (relationByte 1 8) 3) 5 1
+  pub relations-in-order : Refused (set (set small (relationByte 0 8) 0) (relationByte 1 0) 2) 5 0
+  -- 5, after all relations: an attribute left over; r; before 6
+  pub left-over : Refused (set small 7 3) 5 2
+  pub relations-before-left : Refused (set (set small 7 3) (relationByte 1 0) 2) 5 1
+  pub left-before-grants : Refused (set (set small 7 3) (grantByte 0 0) 2) 5 2
+  -- 6: a grant's relation, its subject, its sets, its pair seen before; the grant's number, each tried for all of it before the next
+  pub grant-relation : Refused (set small (grantByte 2 0) 2) 6 2
+  pub grant-subject : Refused (set small (grantByte 3 1) 2) 6 3
+  pub grant-both : Refused (set small (grantByte 1 17) 2) 6 1
+  pub grant-outside : Refused (set small (grantByte 0 17) 2) 6 0
+  pub pair-seen : Refused (set small (grantByte 2 1) 0) 6 2
+  pub pair-any-seen : Refused (set (set small (grantByte 3 0) 0) (grantByte 3 17) 1) 6 3
+  pub pair-whatever : Refused (set (set small (grantByte 2 1) 0) (grantByte 2 17) 0) 6 2
+  pub bad-before-pair : Refused (set (set small (grantByte 1 0) 2) (grantByte 2 1) 0) 6 1
+  pub pair-before-next : Refused (set (set small (grantByte 2 1) 0) (grantByte 3 0) 2) 6 2
+  -- every grant before any owner
+  pub grants-before-owners : Refused (set (set small (grantByte 0 9) 0) (grantByte 3 0) 2) 6 3
+  -- 7: an owner's view of its own relation isn't all clear; the relation; its own grant counts, whatever any sees; before 8
+  pub owner-blind : Refused (set small (grantByte 1 9) 0) 7 1
+  pub owner-own : Refused (set (set (set small (grantByte 1 9) 0) (grantByte 3 9) 2) (grantByte 3 17) 0) 7 1
+  pub owners-in-order : Refused (set (set small (grantByte 0 9) 0) (grantByte 1 9) 0) 7 0
+  pub owners-before-nodes : Refused (set (set small (grantByte 1 9) 0) (nodeByte 0 0) 9) 7 1
+  -- 8: kind, children, a child already taken, unused fields, zero bytes, size; the node
+  pub kind-unknown : Refused (set small (nodeByte 1 0) 9) 8 1
+  pub child-itself : Refused (set small (nodeByte 2 1) 2) 8 2
+  pub children-same : Refused (set small (nodeByte 2 2) 0) 8 2
+  pub child-taken : Refused (set small (nodeByte 3 1) 1) 8 3
+  pub unused-filled : Refused (set small (nodeByte 0 1) 0) 8 0
+  pub spare-filled : Refused (set small (nodeByte 3 7) 1) 8 3
+  pub spare-second : Refused (set small (nodeByte 3 6) 1) 8 3
+  pub size-high : Refused (set small (nodeByte 1 24) 1) 8 1
+  -- 9: attributes or relation of a node; a relation that an earlier leaf has taken; the node
+  pub leaf-relation : Refused (set small (nodeByte 1 3) 2) 9 1
+  pub leaf-taken : Refused (set (set small (nodeByte 1 3) 0) (nodeByte 1 15) 1) 9 1
+  pub leaf-outside : Refused (set small (nodeByte 0 15) 2) 9 0
+  pub attribute-hidden : Refused (set small (nodeByte 3 3) 2) 9 3
+  -- 10: a needed set outside what is read; half of what is read together; the node
+  pub needed-unread : Refused (set small (nodeByte 2 23) 1) 10 2
+  pub needed-half : Refused (set (set small (nodeByte 3 0) 3) (nodeByte 3 4) 1) 10 3
+  -- a node's 8, 9, 10 in turn, and all three before the next node's
+  pub shape-before-attributes : Refused (set (set small (nodeByte 0 5) 1) (nodeByte 0 15) 2) 8 0
+  pub attributes-before-needed : Refused (set (set small (nodeByte 0 15) 2) (nodeByte 0 23) 1) 9 0
+  pub attributes-before-next : Refused (set (set small (nodeByte 0 15) 2) (nodeByte 1 0) 9) 9 0
+  pub needed-before-next : Refused (set (set small (nodeByte 2 23) 1) (nodeByte 3 0) 9) 10 2
+  -- 8, after all nodes: the lowest without parent; before 11
+  pub parent-none : Refused parentless 8 1
+  pub parent-lowest : Refused twoParentless 8 0
+  pub nodes-before-parents : Refused (set parentless (nodeByte 3 23) 2) 10 3
+  pub parents-before-prices : Refused (set parentless (priceByte 0 3) 1) 8 1
+  -- 11: a price too high, or not 0 where 0 is fixed: a leaf's, a subject's to itself; a running index, step prices first
+  pub leaf-price : Refused (set small (priceByte 3 3) 1) 11 3
+  pub step-price : Refused (set small (priceByte 6 0) 1) 11 6
+  pub link-price : Refused (set small (priceByte 10 2) 4) 11 10
+  pub link-itself : Refused (set small (priceByte 11 3) 1) 11 11
+  pub prices-in-order : Refused (set (set small (priceByte 1 3) 1) (priceByte 2 3) 1) 11 1
+  pub steps-before-links : Refused (set (set small (priceByte 7 0) 1) (priceByte 8 3) 1) 11 7

@@ -1,0 +1,60 @@
+-- The table of verdicts, row by row, by computation.
+use mathlib.Core.Path.{refl}
+use lib.Count.{ones}
+use Rattle.laws.specs.BigEndian.{be}
+use Rattle.laws.specs.Choose.{anyOf}
+use Rattle.laws.specs.First.{first, somewhere}
+use Rattle.laws.specs.Sums.{sum}
+use Rattle.laws.specs.Trials.{verdict, rows}
+use Rattle.laws.specs.Upwards.{upwards}
+use Rattle.sets.specs.Sets.{bit, member, union, meet, minus, within, apart, below, single, size, unions}
+use Rattle.night.specs.Night.{relationOf, grantOf, nodeOf, stepPrice, linkPrice}
+use Rattle.night.specs.Kinds.{usesLeft, usesRight, usesX, usesY, usesSet, reads, readTogether, visibleAfter, visibleStep, visibles, isChild, taken}
+use Rattle.night.specs.Views.{isFor, grantFor, viewOf, clearOf, sealedOf}
+use Rattle.rules.specs.Rules.{countsBad, relationBad, leftOver, subjectThere, grantBad, ownerBad, childBad, leftBad, rightBad, unusedBad, shapeBad, leafBad, xBad, yBad, setBad, placeBad, stepBad, half, neededBad, mostForStep, mostForLink}
+use Rattle.layout.specs.Layout.{grantsFrom, nodesFrom, stepPricesFrom, linkPricesFrom, fileLength, headerOf, relationAt, grantAt, nodeAt, pricesAt, nightIn}
+use Rattle.model.specs.Ties.{gathered, tie, merged}
+use Rattle.model.specs.Tables.{leastView, tests, ties, joined, result, leafTable, stepTable, tableStep, tables, tableOf}
+use Rattle.model.specs.Candidates.{clearOffends, sealedOffends, tiedOffends, may, mayTake, isCandidate, candidateSet}
+use Rattle.model.specs.Choice.{weight, stepsAt, steps}
+use Rattle.trials.specs.Trials.{notMarked, notVersioned, headerTrials, takenBefore, pairSeen, isLeafOf, leafBefore, attributesBad, priceIn, mostIn, countIn, trialsOf, section, recordTrials, treeTrials, trials}
+use Rattle.trials.proofs.Computed.{file-verdicts}
+use Rattle.verdicts.specs.Refusals.{withoutCandidate, candidateTrials, stepsTrials, offerBad, offerTrials, choiceRoomTrials, planRoomTrials, keysRoomTrials, cheapestTrials, cheapestPlanTrials, offeredTrials, offeredPlanTrials}
+use Rattle.verdicts.specs.Verdicts.{Verdicts}
+
+pub verdicts : Verdicts
+unfolding anyOf be first somewhere verdict rows upwards bit member union meet minus within apart below single unions relationOf grantOf nodeOf stepPrice linkPrice usesLeft usesRight usesX usesY usesSet reads readTogether visibleAfter visibleStep visibles isChild taken isFor grantFor viewOf countsBad relationBad leftOver subjectThere grantBad ownerBad childBad leftBad rightBad unusedBad shapeBad leafBad xBad yBad setBad placeBad stepBad half neededBad mostForStep mostForLink grantsFrom nodesFrom stepPricesFrom linkPricesFrom fileLength headerOf relationAt grantAt nodeAt pricesAt nightIn notMarked notVersioned headerTrials takenBefore pairSeen isLeafOf leafBefore attributesBad priceIn mostIn countIn trialsOf section recordTrials treeTrials trials ones sum size clearOf sealedOf gathered tie merged leastView tests ties joined result leafTable stepTable tableStep tables tableOf clearOffends sealedOffends tiedOffends may mayTake isCandidate candidateSet weight stepsAt steps withoutCandidate candidateTrials stepsTrials offerBad offerTrials choiceRoomTrials planRoomTrials keysRoomTrials cheapestTrials cheapestPlanTrials offeredTrials offeredPlanTrials
+verdicts =
+    record {
+      file = file-verdicts;
+      file-before-candidates = refl;
+      candidate-none = refl;
+      candidates-before-steps = refl;
+      steps-enough = refl;
+      steps-short = refl;
+      steps-before-rooms = refl;
+      rooms-enough = refl;
+      rooms-longer = refl;
+      choice-short = refl;
+      plan-short = refl;
+      keys-short = refl;
+      choice-before-plan = refl;
+      plan-before-keys = refl;
+      plan-by-nodes = refl;
+      keys-by-attributes = refl;
+      file-before-offer = refl;
+      offer-enough = refl;
+      offer-without-candidate = refl;
+      offer-shorter = refl;
+      offer-longer = refl;
+      length-before-subjects = refl;
+      offer-owner = refl;
+      offer-candidate = refl;
+      offer-missing = refl;
+      offer-lowest = refl;
+      step-before-leaf = refl;
+      offer-before-rooms = refl;
+      offered-plan-short = refl;
+      offered-keys-short = refl;
+      offered-plan-before-keys = refl;
+    }

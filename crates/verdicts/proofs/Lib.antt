@@ -1,0 +1,3 @@
+-- The table of verdicts, computed.
+pub mod Computed
+pub mod Fit

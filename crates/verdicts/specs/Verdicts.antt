@@ -1,0 +1,84 @@
+-- The table of verdicts: each number of document 01 with its place, and, where two conditions hold, the earlier one.
+use Prim.Native.Nat.{ℕ}
+use mathlib.Core.Path.{_≡_}
+use mathlib.Core.List.{List, [], _∷_, _++_}
+use lib.ListN.{set, replicate}
+use Rattle.laws.specs.Trials.{Says, answers, refuses, verdict}
+use Rattle.trials.specs.Small.{aRelation, aGrant, aNode}
+use Rattle.trials.specs.Verdicts.{FileVerdicts}
+use Rattle.verdicts.specs.Refusals.{Rooms, cheapestPlanTrials, offeredPlanTrials}
+
+-- what is said of the cheapest plan of a file, and of the plan for an offered choice
+abbrev pub cheapest : List ℕ → Rooms → Says (Unit {0})
+cheapest s rooms = verdict (cheapestPlanTrials s rooms) tt
+
+abbrev pub offered : List ℕ → List ℕ → Rooms → Says (Unit {0})
+offered s offer rooms = verdict (offeredPlanTrials s offer rooms) tt
+
+-- rooms of these lengths
+abbrev pub room : ℕ → ℕ → ℕ → Rooms
+room choice plan keys = record { choice = replicate choice 0; plan = replicate plan 0; keys = replicate keys 0 }
+
+-- one leaf alone: it asks for rooms of 1, 2 and 2
+abbrev pub leafAlone : List ℕ
+leafAlone =
+    65 ∷ 88 ∷ 80 ∷ 0 ∷ 1 ∷ 1 ∷ 1 ∷ 1 ∷ 1 ∷ 0 ∷ 1 ∷ 0 ∷ 0 ∷ 0 ∷ 0
+    ∷ (aRelation 0 1 ++ aGrant 0 0 1 0 ++ aNode 0 255 255 0 255 1 0 ++ replicate 8 0)
+
+-- a leaf of subject 0 and a select over it, which subject 0 alone may run, of two: one step; it asks for rooms of 2, 4 and 2
+abbrev pub selected : ℕ → List ℕ
+selected allowed =
+    65 ∷ 88 ∷ 80 ∷ 0 ∷ 1 ∷ 2 ∷ 1 ∷ 1 ∷ 2 ∷ 0 ∷ 1 ∷ 0 ∷ 0 ∷ 0 ∷ allowed
+    ∷ (aRelation 0 1 ++ aGrant 0 0 1 0 ++ aNode 0 255 255 0 255 1 0 ++ aNode 2 0 255 0 255 0 0 ++ replicate 32 0)
+
+-- two owners who see nothing of each other's: nodes 0 and 1 as before, a leaf of subject 1, the product of 1 and 2, which no one may run, and a select
+-- over it; one step
+abbrev pub unseen : ℕ → List ℕ
+unseen allowed =
+    65 ∷ 88 ∷ 80 ∷ 0 ∷ 1 ∷ 2 ∷ 2 ∷ 2 ∷ 5 ∷ 0 ∷ 2 ∷ 0 ∷ 0 ∷ 0 ∷ allowed
+    ∷ (aRelation 0 1 ++ aRelation 1 2 ++ aGrant 0 0 1 0 ++ aGrant 1 1 2 0
+    ++ aNode 0 255 255 0 255 1 0 ++ aNode 2 0 255 0 255 0 0 ++ aNode 0 255 255 1 255 2 0 ++ aNode 4 1 2 255 255 0 0 ++ aNode 2 3 255 0 255 0 0
+    ++ replicate 56 0)
+
+pub record Verdicts : Type 0 where
+  -- 1 to 11
+  pub file : FileVerdicts
+  -- the cheapest choice: 1 to 11, 12, 13, 15; the last price of the file is not 0, no step is allowed, no room is lent
+  pub file-before-candidates : cheapest (set (unseen 0) 264 1) (room 0 0 0) ≡ refuses 11 13
+  -- 12: a step without candidate; the lowest node; before 13 and 15
+  pub candidate-none : cheapest (unseen 1) (room 5 10 4) ≡ refuses 12 3
+  pub candidates-before-steps : cheapest (unseen 0) (room 0 0 0) ≡ refuses 12 3
+  -- 13: steps exceed those allowed, and no choice so far is answered; 0; before 15
+  pub steps-enough : cheapest (selected 1) (room 2 4 2) ≡ answers tt
+  pub steps-short : cheapest (selected 0) (room 2 4 2) ≡ refuses 13 0
+  pub steps-before-rooms : cheapest (selected 0) (room 0 0 0) ≡ refuses 13 0
+  -- 15: lent room too short; 1 choice, 2 plan, 3 keys, the lowest; room beyond is no fault
+  pub rooms-enough : cheapest leafAlone (room 1 2 2) ≡ answers tt
+  pub rooms-longer : cheapest leafAlone (room 2 3 3) ≡ answers tt
+  pub choice-short : cheapest leafAlone (room 0 2 2) ≡ refuses 15 1
+  pub plan-short : cheapest leafAlone (room 1 1 2) ≡ refuses 15 2
+  pub keys-short : cheapest leafAlone (room 1 2 1) ≡ refuses 15 3
+  pub choice-before-plan : cheapest leafAlone (room 0 1 2) ≡ refuses 15 1
+  pub plan-before-keys : cheapest leafAlone (room 1 1 1) ≡ refuses 15 2
+  -- plan and keys are as long as nodes and attributes ask, two numbers for each
+  pub plan-by-nodes : cheapest (selected 1) (room 2 3 2) ≡ refuses 15 2
+  pub keys-by-attributes : cheapest (selected 1) (room 2 4 1) ≡ refuses 15 3
+  -- an offered choice: 1 to 11, 14, 15; neither 12 nor 13 is asked, nor the room for the choice
+  pub file-before-offer : offered (set (selected 0) 129 1) [] (room 0 0 0) ≡ refuses 11 7
+  pub offer-enough : offered (selected 0) (0 ∷ 0 ∷ []) (room 0 4 2) ≡ answers tt
+  pub offer-without-candidate : offered (unseen 0) (0 ∷ 0 ∷ 1 ∷ 0 ∷ 0 ∷ []) (room 0 10 4) ≡ refuses 14 3
+  -- 14: length not n; n; before the subjects and 15
+  pub offer-shorter : offered (selected 1) (0 ∷ []) (room 0 4 2) ≡ refuses 14 2
+  pub offer-longer : offered (selected 1) (0 ∷ 0 ∷ 0 ∷ []) (room 0 4 2) ≡ refuses 14 2
+  pub length-before-subjects : offered (selected 1) (1 ∷ []) (room 0 0 0) ≡ refuses 14 2
+  -- 14: a subject that is no candidate, or a leaf's that is not the owner; the lowest node; before 15
+  pub offer-owner : offered (selected 1) (1 ∷ 0 ∷ []) (room 0 4 2) ≡ refuses 14 0
+  pub offer-candidate : offered (selected 1) (0 ∷ 1 ∷ []) (room 0 4 2) ≡ refuses 14 1
+  pub offer-missing : offered (selected 1) (0 ∷ 2 ∷ []) (room 0 4 2) ≡ refuses 14 1
+  pub offer-lowest : offered (selected 1) (1 ∷ 1 ∷ []) (room 0 4 2) ≡ refuses 14 0
+  pub step-before-leaf : offered (unseen 1) (0 ∷ 1 ∷ 0 ∷ 0 ∷ 0 ∷ []) (room 0 10 4) ≡ refuses 14 1
+  pub offer-before-rooms : offered (selected 1) (0 ∷ 1 ∷ []) (room 0 0 0) ≡ refuses 14 1
+  -- 15: plan and keys
+  pub offered-plan-short : offered leafAlone (0 ∷ []) (room 1 1 2) ≡ refuses 15 2
+  pub offered-keys-short : offered leafAlone (0 ∷ []) (room 1 2 1) ≡ refuses 15 3
+  pub offered-plan-before-keys : offered leafAlone (0 ∷ []) (room 1 1 1) ≡ refuses 15 2

@@ -1,0 +1,3 @@
+-- The laws of looking for grants and of what they let see.
+mod Among
+mod Seen

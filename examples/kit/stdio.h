@@ -1,0 +1,11 @@
+/* What the example takes from <stdio.h>: the kit's compiler comes without headers. */
+#ifndef STDIO_H
+#define STDIO_H
+
+typedef struct _IO_FILE FILE;
+int printf(const char *, ...);
+FILE *fopen(const char *, const char *);
+__SIZE_TYPE__ fread(void *, __SIZE_TYPE__, __SIZE_TYPE__, FILE *);
+int fclose(FILE *);
+
+#endif
