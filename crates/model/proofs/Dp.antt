@@ -15,7 +15,7 @@ use Rattle.model.specs.Dp.{subjectsOf, handedOn, noRow, bestChild, costR
 use Rattle.model.proofs.Parents.{child-lower}
 use Rattle.model.proofs.Lowest.{Found, best-found, found-some}
 use Rattle.model.proofs.Follows.{chosen-follows}
-use Rattle.model.proofs.CostRows.{costOf, leastChild, subject-there, subject-low, subject-leaf, subject-step, subject-in, subject-some, child-found}
+use Rattle.model.proofs.CostRows.{costOf, leastChild, subject-low, subject-leaf, subject-step, subject-in, subject-some, child-found}
 use Rattle.model.proofs.Greedy.{entryAt, childAt, last-le, child-tight, last-is}
 
 -- the last node's search
@@ -63,9 +63,6 @@ module _ (N : Night) (sound : Promised N) (some : AllHave N) where
       under h =
           let w = sound .parent k (omega arith) in
           rw (child-chosen (w .0) k (w .1) (w .2)) (child-found N sound k l (c (w .0)) .there (child-there k (c (w .0)) l))
-
-  pub chosen-there : (k : ℕ) → k < N .header .nodes → getD (chosen N) k 0 < N .header .subjects
-  chosen-there k l = subject-there N sound k l (c k) (chosen-in k l)
 
   chosen-admissible : Admissible N c
   chosen-admissible =

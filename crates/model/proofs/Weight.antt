@@ -174,14 +174,8 @@ module _ (N : Night) (sound : Promised N) where
       go true e = rw (row-known N k i (ltb-true k i e) l) (cost-most k s (omega (arith, ltb-true k i e)))
       go false e = rw (upwards-past (rowStep N) noRow k i (ltb-false k i e)) (omega (arith, blank-row s))
 
-  -- a child's offer to its parent, and the least of them
+  -- a child's offer to its parent
   pub offer-most : (i k s t : ℕ) → i ≤ n → k < n → s < N .header .subjects → t < N .header .subjects
       → handedOn N (getD (upwards (rowStep N) i) k noRow) (nodeOf N k .size) s t ≤ 129064000000
   unfolding handedOn
   offer-most i k s t l h p q = omega (arith, row-most i k t l, link-most k t s h q p)
-
-  pub least-most : (i k s : ℕ) → i ≤ n → k < n → s < N .header .subjects → bestChild N (upwards (rowStep N) i) k s .least ≤ 129064000000
-  unfolding bestChild
-  least-most i k s l h p =
-      best-most N (getD (upwards (rowStep N) i) k noRow) (subjectsOf N k) (nodeOf N k .size) s 16 129064000000
-      (λ t g e. offer-most i k s t l h p (subject-there N sound k h t e))

@@ -203,10 +203,6 @@ pub meet-lt : (w a b : ℕ) → a < 2 ^ w → meet a b < 2 ^ w
 unfolding meet
 meet-lt w a b h = omega (arith, and-le-l a b)
 
-pub minus-lt : (w a b : ℕ) → a < 2 ^ w → minus a b < 2 ^ w
-unfolding minus
-minus-lt w a b h = omega arith
-
 -- one more set
 pub unions-none : (f : ℕ → ℕ) → unions f 0 ≡ 0
 unfolding unions
