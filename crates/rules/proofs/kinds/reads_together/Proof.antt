@@ -1,5 +1,6 @@
 -- The tests are the definition's, in its order.
-use mathlib.Core.Path.{sym}
+use mathlib.Core.Path.{_≡_, sym}
+use native.Mathlib.Omega.{arith}
 use Rattle.laws.proofs.Cases.{cases}
 use Rattle.night.specs.Kinds.{readTogether}
 use Rattle.rules.proofs.kinds.reads_together.Statement.{statement}
@@ -15,7 +16,9 @@ returns-2 c = sym (search cases depth 20)
 
 returns-3 : tie.Need-returns-3
 unfolding readTogether
-returns-3 c = sym (search cases depth 20)
+returns-3 c =
+    let function : c .before .before .before .args .v .kind ≡ 8 = omega arith in
+    sym (search cases depth 20)
 
 returns-4 : tie.Need-returns-4
 unfolding readTogether
