@@ -5,7 +5,7 @@
  *
  * Of its caller a function asks this much of the pointers:
  * - A file, an offer or a room that is passed with a length has that many elements there. With a length of 0 any pointer will do, a null pointer too.
- * - A pointer to a single number (from, length, set, total, steps) points to one.
+ * - A pointer to a single number (from, length, set, table, condition, total, steps) points to one.
  * - What a function writes to overlaps nothing else that it is passed: no two rooms or numbers share a byte, nor does one of them share a byte with the
  *   file or the offer. With plan and keys in one room, say, the answer is 0 and the keys have overwritten the plan. */
 #ifndef TOLLBURROW_H
@@ -29,6 +29,14 @@ uint64_t tollburrow_grant_records(const uint8_t *file, uint64_t file_length, uin
 
 /* The candidates of a node, bit p for subject p: none for a leaf and for a number that no node has. Refusals 1 to 11. */
 uint64_t tollburrow_candidates(const uint8_t *file, uint64_t file_length, uint64_t node, uint16_t *set);
+
+/* Why a subject is out of a step. The tables that its subject would take and make are looked at in this order: 1 the left operand's least view (the
+ * only operand is the left one), 2 the right one's, 3 the result; in each the conditions in the rules' order: 1 what is visible or implicit in clear
+ * is in P, 2 what is so sealed is in P or E, 3 each tied set lies wholly in P or wholly in E. The first that fails is written: the table, the
+ * condition, and a set, which is for 1 and 2 the lowest attribute that offends, and for 3 the whole tied set with the lowest first attribute among
+ * those that fail. Where none fails the subject is a candidate, and all three numbers are 0. Of the result only condition 3 can be the first to fail.
+ * Refusals 1 to 11, then 16 for a node that is no step or a subject that isn't there; the place is the node asked for. */
+uint64_t tollburrow_why(const uint8_t *file, uint64_t file_length, uint32_t node, uint32_t subject, uint8_t *table, uint8_t *condition, uint64_t *set);
 
 /* The cheapest choice and its plan. Of the file's n nodes and a attributes it writes: into choice the subject of each node, n bytes; into plan
  * for each node the set that it opens and the set that it seals, 2n numbers; into keys for each attribute the name of its key, or 64, and the set of

@@ -1,12 +1,12 @@
 #!/usr/bin/env python3
-"""Writes the figures that the program facts runs: its input, and what document 01 says of each.
+"""Writes the figures that the program facts runs: its input, and what document 01, or the ticket that adds to it, says of each.
 
 Each figure is the sample night, cut or filled with zeros to a length, with some bytes changed; or the same of a night with all kinds of node; or a
 leaf alone; or a file of the greatest length. What stands beside it is read off document 01 by hand, never computed. Run from the repository's root.
 """
 import struct
 
-from night import all_kinds, alone, longest, parted, sample
+from night import all_kinds, alone, longest, parted, reasons, sample
 
 # name, length, bytes changed, what document 01 says
 FIGURES = [
@@ -154,7 +154,7 @@ OTHERS = [
 
 
 # the entries, by the number that a case has
-CHECK, CHEAPEST, OFFERED = range(3)
+CHECK, CHEAPEST, OFFERED, WHY = range(4)
 WIDE = (64, 128, 128)
 EXACT = (6, 12, 12)
 
@@ -200,6 +200,40 @@ OFFERS = [
     ("15 plan, offered", sample(), SAMPLE_CHOICE, (0, 11, 11), "refused 15 place 2"),
     ("15 keys, offered", sample(), SAMPLE_CHOICE, (0, 12, 11), "refused 15 place 3"),
 ]
+# name, file, node, subject, what document 01 and ticket 2026-01 say of why the subject is out
+WHYS = [
+    ("why, I at the join", sample(), 3, 1, "result 3 0,4"),
+    ("why, X at the join", sample(), 3, 3, "candidate"),
+    ("why, I at the aggregate", sample(), 4, 1, "left 3 0,4"),
+    ("why, H at the root", sample(), 5, 0, "left 1 5"),
+    ("why, I at the root", sample(), 5, 1, "left 3 0,4"),
+    ("why, U at the root", sample(), 5, 2, "candidate"),
+    ("why, X at the root", sample(), 5, 3, "left 1 5"),
+    ("why, Y at the root", sample(), 5, 4, "candidate"),
+    ("why, Z at the root", sample(), 5, 5, "left 1 5"),
+    ("why, the left one's owner where nobody may join", parted(), 2, 0, "right 2 1"),
+    ("why, the right one's owner where nobody may join", parted(), 2, 1, "left 2 0"),
+    ("why, a join, who sees what it needs and each tied set alike", reasons(), 5, 0, "candidate"),
+    ("why, a join, the left one's attribute sealed", reasons(), 5, 1, "left 1 0"),
+    ("why, a join, a column of the left one unseen", reasons(), 5, 2, "left 2 1"),
+    ("why, a join, half of the left one's tied set sealed", reasons(), 5, 3, "left 3 1,2"),
+    ("why, a join, the right one's attribute sealed", reasons(), 5, 4, "right 1 3"),
+    ("why, a join, two columns of the right one unseen", reasons(), 5, 5, "right 2 4"),
+    ("why, a join, half of the right one's tied set sealed", reasons(), 5, 6, "right 3 4,5"),
+    ("why, a join, who sees all in clear", reasons(), 5, 7, "candidate"),
+    ("why, a comparison that ties what is seen clear and sealed", reasons(), 6, 0, "result 3 1,2,4,5"),
+    ("16 a leaf", sample(), 0, 0, "refused 16 place 0"),
+    ("16 the last leaf", sample(), 2, 1, "refused 16 place 2"),
+    ("16 a leaf alone", alone([(0, 0, 1, 0)]), 0, 0, "refused 16 place 0"),
+    ("16 node 6 of 6", sample(), 6, 0, "refused 16 place 6"),
+    ("16 node 259", sample(), 259, 1, "refused 16 place 259"),
+    ("16 the highest node", sample(), 4294967295, 1, "refused 16 place 4294967295"),
+    ("16 subject 6 of 6", sample(), 3, 6, "refused 16 place 3"),
+    ("16 subject 257", sample(), 3, 257, "refused 16 place 3"),
+    ("16 the highest subject", sample(), 3, 4294967295, "refused 16 place 3"),
+    ("16 neither node nor subject", sample(), 7, 8, "refused 16 place 7"),
+    ("3 before 16", sample()[:-1], 0, 0, "refused 3 place 0"),
+]
 
 
 def changed(data, length, edits):
@@ -240,6 +274,9 @@ def main():
         for name, file, offer, rooms, said in OFFERS + [("offered, " + name, file, SAMPLE_CHOICE, WIDE, said) for name, file, said in refused]:
             given.write(case(name, OFFERED, rooms, offer, file))
             expected.write("%s: %s, rooms kept\n" % (name, said))
+        for name, file, node, subject, said in WHYS + [("why, " + name, file, 0, 0, said) for name, file, said in refused]:
+            given.write(case(name, WHY, (0, 0, 0), struct.pack(">II", node, subject), file))
+            expected.write("%s: %s\n" % (name, said))
 
 
 if __name__ == "__main__":

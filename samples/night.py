@@ -1,5 +1,5 @@
 #!/usr/bin/env python3
-"""Writes document 01's sample night as samples/night.axp, and in the specs as a list of bytes and as values.
+"""Writes document 01's sample night as samples/night.axp, and in the specs as a list of bytes and as values; and samples/reasons.axp.
 The files of the specs are laid out by `rt fmt` afterwards.
 
 Run from the repository's root. The grants are those of figure 4 of source document 004.
@@ -96,6 +96,34 @@ def parted():
     return file_of(2, 2, [(0, 1), (1, 2)], [(0, 0, 1, 0), (1, 1, 2, 0)], nodes, [1, 1], 1)
 
 
+def reasons():
+    """Two owners, 0 and 1, and six more subjects: at the join, which needs its attributes, each has another reason to be out, or none."""
+    relations = [(0, 0b000111), (1, 0b111000)]
+    granted = [
+        (0, 0, 0b000111, 0),
+        (0, 1, 0, 0b000111),
+        (0, 2, 0b000001, 0),
+        (0, 3, 0b000011, 0b000100),
+        (0, ANY, 0b000111, 0),
+        (1, 0, 0b001000, 0b110000),
+        (1, 1, 0b111000, 0),
+        (1, 4, 0, 0b111000),
+        (1, 5, 0b001000, 0),
+        (1, 6, 0b011000, 0b100000),
+        (1, 7, 0b111000, 0),
+    ]
+    nodes = [
+        (LEAF, NONE, NONE, 0, NONE, 0b000111, 0, 4),
+        (COMPARE, 0, NONE, 1, 2, 0, 0, 2),
+        (PROJECT, 1, NONE, NONE, NONE, 0b000011, 0, 2),
+        (LEAF, NONE, NONE, 1, NONE, 0b111000, 0, 4),
+        (COMPARE, 3, NONE, 4, 5, 0, 0, 2),
+        (JOIN, 2, 4, 0, 3, 0, 0b001001, 2),
+        (COMPARE, 5, NONE, 1, 4, 0, 0, 1),
+    ]
+    return file_of(8, 6, relations, granted, nodes, [3, 3, 3, 3, 3, 3, 3, 5], 1)
+
+
 def longest():
     """Every count at its limit, all 64 bits of the sets in use: 16 leaves, 15 products over them, 33 selects on top."""
     sets = [0xF << 4 * r for r in range(16)]
@@ -141,6 +169,8 @@ def main():
     data = sample()
     with open("samples/night.axp", "wb") as out:
         out.write(data)
+    with open("samples/reasons.axp", "wb") as out:
+        out.write(reasons())
     with open("crates/trials/specs/Sample.antt", "w", encoding="utf-8") as out:
         out.write(
             "-- Document 01's sample night as bytes, written by samples/night.py.\n"

@@ -2,7 +2,7 @@
 
 use crate::generate::{Case, LONGEST_OFFER, LONGEST_TAKEN};
 use crate::planner::{Rooms, Study, study};
-use crate::program::ask;
+use crate::program::printed;
 use crate::reading::Refusal;
 use crate::text;
 
@@ -39,7 +39,7 @@ impl Stream {
 
     /// Sends the cases with `tail` after them, which must bring `last`.
     fn compare(&self, command: &str, tail: &[u8], last: &str) -> Result<(), String> {
-        let output = ask(command, [&self.input[..], tail].concat())?;
+        let output = printed(command, &[], &[&self.input[..], tail].concat())?;
         let mut rest = &output[..];
         for (number, lines) in self.expected.iter().enumerate() {
             let Some(after) = rest.strip_prefix(&lines[..]) else {

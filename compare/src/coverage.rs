@@ -1,10 +1,12 @@
 //! What the cases have touched, counted so that a silent gap shows.
 
 use crate::every::Tried;
+use crate::failing::Failing;
 use crate::generate::Case;
 use crate::planner::{Answer, Key, Study};
 use crate::reading::Refusal;
 use crate::slips;
+use crate::whys::SORTS;
 
 /// From so many cases on, with one large file in so many, each line of the
 /// table has to reach its floor: a bit less than what such runs reach.
@@ -20,7 +22,11 @@ const LEAST_REFUSED: [usize; 15] = [
 const LEAST_OF_KIND: [usize; 9] =
     [90_000, 42_000, 64_000, 42_000, 10_000, 19_000, 42_000, 21_000, 42_000];
 /// Floors for the slips, in the order of their names.
-const LEAST_SHOWN: [usize; slips::NAMES.len()] = [22_000, 7_700, 570, 40, 900];
+const LEAST_SHOWN: [usize; slips::NAMES.len()] =
+    [22_000, 7_700, 570, 40, 900, 9_000, 8_500, 2_800, 13_500, 3_900];
+/// Floors for the sorts of answers to why a subject is out.
+const LEAST_OF_SORT: [usize; SORTS.len()] =
+    [640_000, 225_000, 150_000, 46_000, 6_500, 10_000, 2_300, 9_500, 118_000, 470_000, 260_000];
 
 /// From so many nodes and subjects on an answered file counts as broad, and
 /// from so many nodes on an accepted offer as one on a long file.
@@ -32,6 +38,8 @@ const MOST_NODES: usize = 64;
 const MOST_SUBJECTS: usize = 16;
 /// A tied set of so many attributes counts as wide.
 const WIDE_TIE: usize = 5;
+/// And of so many where it is named as the reason.
+const WIDE_NAMED: usize = 3;
 
 /// A line of the table: what is counted, how often it came up, and the least
 /// that a full run must reach.
@@ -67,6 +75,17 @@ struct Tiny {
     runs: usize,
 }
 
+/// What is counted of the answers to why a subject is out.
+#[derive(Default)]
+struct Whys {
+    sorts: [usize; SORTS.len()],
+    several_offend: usize,
+    implicit_alone: usize,
+    wide_ties: usize,
+    faded_ties: usize,
+    ties_behind: usize,
+}
+
 #[derive(Default)]
 pub struct Coverage {
     refusals: [usize; 16],
@@ -93,6 +112,7 @@ pub struct Coverage {
     nowhere: usize,
     broad: Broad,
     tiny: Tiny,
+    whys: Whys,
 }
 
 fn count(yes: bool) -> usize {
@@ -123,10 +143,11 @@ impl Coverage {
         }
     }
 
-    pub fn read(&mut self, study: &Study) {
+    /// A readable file, and all that fails for each of those asked about.
+    pub fn read(&mut self, study: &Study, asked: &[Vec<Failing>]) {
         self.readable += 1;
         self.wide_ties += count(study.widest_tie() >= WIDE_TIE);
-        for (slip, shown) in self.slips.iter_mut().zip(slips::shown(study)) {
+        for (slip, shown) in self.slips.iter_mut().zip(slips::shown(study, asked)) {
             *slip += count(shown);
         }
         for (node, candidates) in study.file.nodes.iter().zip(&study.candidates) {
@@ -136,6 +157,22 @@ impl Coverage {
                 self.several_candidates += count(candidates.len() > 1);
             }
         }
+    }
+
+    /// An answer to why a subject is out, of a sort, and all that fails for it.
+    pub fn why(&mut self, sort: usize, failing: &[Failing]) {
+        let whys = &mut self.whys;
+        whys.sorts[sort] += 1;
+        let Some(first) = failing.first() else { return };
+        let (named, several) = (&first.offending[0], first.offending.len() > 1);
+        if first.condition < 3 {
+            whys.several_offend += count(several);
+            whys.implicit_alone += count(!first.visible.has(named[0]));
+            return;
+        }
+        whys.wide_ties += count(named.len() >= WIDE_NAMED);
+        whys.faded_ties += count(named.iter().any(|&attribute| !first.visible.has(attribute)));
+        whys.ties_behind += count(several);
     }
 
     /// An answered cheapest choice, and whether the other order of comparing
@@ -191,6 +228,7 @@ impl Coverage {
         for ((name, &count), least) in slips::NAMES.iter().zip(&self.slips).zip(LEAST_SHOWN) {
             lines.push(line(&format!("files that would show {name}"), count, least));
         }
+        lines.extend(self.lines_of_whys());
         lines.extend(self.lines_of_pointers());
         lines.extend(self.lines_of_runs());
         lines
@@ -236,6 +274,22 @@ impl Coverage {
                 21_000,
             ),
         ]
+    }
+
+    fn lines_of_whys(&self) -> Vec<Line> {
+        let whys = &self.whys;
+        let sorts = SORTS.iter().zip(whys.sorts).zip(LEAST_OF_SORT);
+        let mut lines: Vec<Line> = sorts
+            .map(|((sort, count), least)| line(&format!("asked why: {sort}"), count, least))
+            .collect();
+        lines.extend([
+            line("asked why: one named of several that offend", whys.several_offend, 125_000),
+            line("asked why: one named that is implicit alone", whys.implicit_alone, 110_000),
+            line("asked why: a tied set of 3 or more named", whys.wide_ties, 22_000),
+            line("asked why: a tied set named, not all of it visible", whys.faded_ties, 31_000),
+            line("asked why: a tied set named, another fails too", whys.ties_behind, 3_800),
+        ]);
+        lines
     }
 
     fn lines_of_pointers(&self) -> [Line; 6] {

@@ -3,10 +3,13 @@
 use crate::choice;
 use crate::coverage::Coverage;
 use crate::every;
+use crate::failing::{Failing, Steps};
 use crate::generate::Case;
 use crate::planner::{Answer, Study};
 use crate::reading::Refusal;
 use crate::run;
+use crate::why::Verdict;
+use crate::whys;
 
 /// Beyond this many choices only the recursion is asked.
 const MOST_ENUMERATED: usize = 20_000;
@@ -14,17 +17,27 @@ const MOST_ENUMERATED: usize = 20_000;
 pub fn examine(
     case: &Case,
     study: &Result<Study, Refusal>,
+    verdicts: &[Verdict],
     coverage: &mut Coverage,
 ) -> Result<(), String> {
     coverage.pointers(case, study.is_ok());
-    let study = match study {
-        Ok(study) => study,
+    match study {
+        Ok(study) => examine_read(case, study, verdicts, coverage),
         Err(refusal) => {
             coverage.refused(&[*refusal]);
-            return Ok(());
+            Ok(())
         }
-    };
-    coverage.read(study);
+    }
+}
+
+fn examine_read(
+    case: &Case,
+    study: &Study,
+    verdicts: &[Verdict],
+    coverage: &mut Coverage,
+) -> Result<(), String> {
+    let failing = reasons_hold(case, study, verdicts, coverage)?;
+    coverage.read(study, &failing);
     if study.file.write() != case.file {
         return Err("the file written again is another".into());
     }
@@ -53,6 +66,24 @@ pub fn examine(
         coverage.tried(&tried);
     }
     Ok(())
+}
+
+/// Every answer to why a subject is out is right by a second way; all that
+/// fails for each of those asked about.
+fn reasons_hold(
+    case: &Case,
+    study: &Study,
+    verdicts: &[Verdict],
+    coverage: &mut Coverage,
+) -> Result<Vec<Vec<Failing>>, String> {
+    let steps = Steps::of(study);
+    let mut all = Vec::new();
+    for (&asked, verdict) in case.questions.iter().zip(verdicts) {
+        let failing = steps.checked(asked, verdict)?;
+        coverage.why(whys::sort(study, asked, verdict), &failing);
+        all.push(failing);
+    }
+    Ok(all)
 }
 
 fn two_ways(study: &Study, coverage: &mut Coverage) -> Result<(), String> {

@@ -7,6 +7,7 @@ use crate::planner::{Rooms, Study, study};
 use crate::rng::Rng;
 use crate::served::serve;
 use crate::valid::{self, Size};
+use crate::why::Question;
 
 #[derive(Clone)]
 pub struct Case {
@@ -18,6 +19,8 @@ pub struct Case {
     pub fill: u8,
     /// The nodes whose candidates are asked.
     pub asked: Vec<usize>,
+    /// What is asked about why a subject is out.
+    pub questions: Vec<Question>,
     /// The address that is passed where a length is 0.
     pub bare: usize,
 }
@@ -210,9 +213,39 @@ fn finish(rng: &mut Rng, family: &'static str, file: Vec<u8>, fits: bool) -> Cas
     };
     let rooms = rooms(rng, study.as_ref(), fits);
     let fill = if rng.percent(50) { 165 } else { rng.next() as u8 };
-    let asked = asked(rng, study.map_or(1, |study| study.file.nodes.len()));
+    let asked = asked(rng, study.as_ref().map_or(1, |study| study.file.nodes.len()));
     let bare = rng.pick(&[0, 0, 1, usize::MAX]);
-    Case { family, file, offer, rooms, fill, asked, bare }
+    let questions = match &study {
+        Some(study) => questions(rng, &study.file, &asked),
+        None => {
+            let number = rng.pick(&[0, 64, u32::MAX]);
+            [0, number].map(|number| Question { node: number, subject: number }).to_vec()
+        }
+    };
+    Case { family, file, offer, rooms, fill, asked, questions, bare }
+}
+
+/// Every subject at each step of those asked, the leaves, and numbers that are
+/// not there: among them some that would be if they were cut to 8 or 16 bits.
+fn questions(rng: &mut Rng, file: &File, asked: &[usize]) -> Vec<Question> {
+    let (nodes, subjects) = (file.nodes.len() as u32, file.subjects as u32);
+    let (leaves, steps): (Vec<u32>, Vec<u32>) =
+        (0..nodes).partition(|&node| file.nodes[node as usize].work.is_leaf());
+    let some_step = |rng: &mut Rng| if steps.is_empty() { 0 } else { rng.pick(&steps) };
+    let some_subject = |rng: &mut Rng| rng.below(file.subjects) as u32;
+    let mut out = vec![Question { node: nodes, subject: subjects }];
+    for &node in steps.iter().filter(|&&node| asked.contains(&(node as usize))) {
+        out.extend((0..subjects).map(|subject| Question { node, subject }));
+    }
+    let cut = [1 << 8, 1 << 16].map(|past| past + some_step(rng));
+    let no_steps = [nodes, nodes + 1, 255, 256, u32::MAX].into_iter().chain(cut).chain(leaves);
+    out.extend(no_steps.map(|node| Question { node, subject: some_subject(rng) }));
+    let cut = [1 << 8, 1 << 16].map(|past| past + some_subject(rng));
+    let nobody = [subjects, 255, u32::MAX].into_iter().chain(cut);
+    out.extend(nobody.map(|subject| Question { node: some_step(rng), subject }));
+    // The first of a sort is the one that goes to the program.
+    rng.shuffle(&mut out);
+    out
 }
 
 /// Nodes of the file, the number after the last, and one far past it.

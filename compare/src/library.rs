@@ -3,7 +3,8 @@
 
 use crate::generate::Case;
 use crate::planner::Rooms;
-use crate::record::{Outcome, Record};
+use crate::record::{Outcome, Record, Told};
+use crate::why::Question;
 
 unsafe extern "C" {
     fn tollburrow_check(file: *const u8, n: usize) -> u64;
@@ -32,6 +33,15 @@ unsafe extern "C" {
         keys: *mut u64,
         k: usize,
         total: *mut u64,
+    ) -> u64;
+    fn tollburrow_why(
+        file: *const u8,
+        n: usize,
+        node: u32,
+        subject: u32,
+        table: *mut u8,
+        condition: *mut u8,
+        set: *mut u64,
     ) -> u64;
 }
 
@@ -63,6 +73,16 @@ fn candidates(case: &Case, node: usize, untouched: u16) -> (u64, u16) {
     // SAFETY: a slice with its length, and a number of our own.
     let code = unsafe { tollburrow_candidates(file, n, node, &mut set) };
     (code, set)
+}
+
+fn why(case: &Case, asked: Question) -> Told {
+    let (file, n) = passed(case, &case.file);
+    let mut told = Told::untouched(case.fill);
+    let Told { table, condition, set, .. } = &mut told;
+    // SAFETY: a slice with its length, and three numbers of our own.
+    told.code =
+        unsafe { tollburrow_why(file, n, asked.node, asked.subject, table, condition, set) };
+    told
 }
 
 fn cheapest(case: &Case) -> Outcome {
@@ -118,6 +138,7 @@ pub fn record(case: &Case) -> Record {
         check: unsafe { tollburrow_check(file, n) },
         grants: grants(case, untouched),
         candidates: case.asked.iter().map(of_node).collect(),
+        whys: case.questions.iter().map(|&asked| why(case, asked)).collect(),
         cheapest: cheapest(case),
         offered: offered(case),
     }

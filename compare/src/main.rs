@@ -6,6 +6,7 @@ mod coverage;
 mod damage;
 mod every;
 mod examine;
+mod failing;
 mod file;
 mod generate;
 #[cfg(feature = "library")]
@@ -21,17 +22,24 @@ mod run;
 mod served;
 mod sets;
 mod slips;
+mod starts;
 mod text;
 mod valid;
 mod views;
+mod why;
+mod whys;
 
 use std::process::ExitCode;
 use std::time::{Duration, Instant};
 
 use coverage::{Coverage, Line, line};
 use generate::Case;
+use planner::Study;
+use reading::Refusal;
 use record::Record;
 use rng::Rng;
+use starts::Starts;
+use why::Verdict;
 
 /// The linked library's record of a case.
 type Linked = fn(&Case) -> Record;
@@ -47,6 +55,7 @@ struct Options {
     lines: usize,
     answers: Option<String>,
     plan: Option<String>,
+    why: Option<String>,
     night: Option<String>,
     alone: bool,
 }
@@ -59,6 +68,7 @@ fn options() -> Result<Options, String> {
         lines: 1_000,
         answers: None,
         plan: None,
+        why: None,
         night: None,
         alone: false,
     };
@@ -70,6 +80,7 @@ fn options() -> Result<Options, String> {
             "--alone" => options.alone = true,
             "--answers" => options.answers = Some(value()?),
             "--plan" => options.plan = Some(value()?),
+            "--why" => options.why = Some(value()?),
             "--night" => options.night = Some(value()?),
             "--cases" => options.cases = number(value()?)? as usize,
             "--seed" => options.seed = number(value()?)?,
@@ -90,7 +101,7 @@ fn hex(bytes: &[u8]) -> String {
 
 /// All it takes to make the case again, or to send it by hand.
 fn label(options: &Options, index: usize, case: &Case) -> String {
-    let Case { family, file, offer, rooms, fill, asked, bare } = case;
+    let Case { family, file, offer, rooms, fill, asked, bare, .. } = case;
     format!(
         "seed {} case {index} large {} ({family})\nfile {}\noffer {}\n{rooms:?} fill {fill} \
         asked {asked:?} bare {bare}",
@@ -113,36 +124,67 @@ struct Runner {
     options: Options,
     coverage: Coverage,
     stream: answers::Stream,
-    plans: plans::Plans,
+    plans: Starts,
+    whys: Starts,
     in_library: Duration,
 }
 
 impl Runner {
     fn case(&mut self, index: usize, send: bool) -> Result<(), String> {
         let case = generate::case(self.options.seed, index, self.options.large_every);
-        let label = || label(&self.options, index, &case);
+        self.compare(index, send, &case)
+            .map_err(|text| format!("{}\n{text}", label(&self.options, index, &case)))
+    }
+
+    fn compare(&mut self, index: usize, send: bool, case: &Case) -> Result<(), String> {
         let study = planner::study(&case.file);
-        examine::examine(&case, &study, &mut self.coverage)
-            .map_err(|text| format!("{}\n{text}", label()))?;
+        let verdicts = why::verdicts(&study, &case.questions);
+        examine::examine(case, &study, &verdicts, &mut self.coverage)?;
         if let Some(linked) = LINKED.filter(|_| !self.options.alone) {
-            let expected = record::expected(&study, &case);
+            let expected = record::expected(&study, &verdicts, case);
             let start = Instant::now();
-            let given = linked(&case);
+            let given = linked(case);
             self.in_library += start.elapsed();
-            if given != expected {
-                return Err(format!("{}\nexpected {expected:?}\ngiven    {given:?}", label()));
+            if let Some(text) = expected.difference(&given, &case.questions) {
+                return Err(text);
             }
         }
         if send {
-            self.stream.add(label(), &case, &study);
+            self.stream.add(label(&self.options, index, case), case, &study);
         }
+        self.start(index, case, &study, &verdicts)
+    }
+
+    /// Starts the programs on the case, if it is one of those wanted.
+    fn start(
+        &mut self,
+        index: usize,
+        case: &Case,
+        study: &Result<Study, Refusal>,
+        verdicts: &[Verdict],
+    ) -> Result<(), String> {
+        let cases = self.options.cases;
         if let Some(command) = &self.options.plan
-            && self.plans.takes(index, self.options.cases, &study)
+            && self.plans.takes(plans::sort(study), index, cases)
         {
-            plans::compare(command, &case.file, &study)
-                .map_err(|text| format!("{}\n{text}", label()))?;
+            plans::compare(command, &case.file, study)?;
+        }
+        let Some(command) = &self.options.why else { return Ok(()) };
+        for (&asked, verdict) in case.questions.iter().zip(verdicts) {
+            if self.whys.takes(whys::start_sort(study, asked, verdict), index, cases) {
+                whys::compare(command, &case.file, asked, verdict)?;
+            }
         }
         Ok(())
+    }
+
+    /// The first small case, read and with an offer, that `fits`.
+    fn readable(&self, fits: impl Fn(&Study) -> bool) -> Case {
+        let mut cases = (0..).map(|index| generate::case(self.options.seed, index, usize::MAX));
+        let whole = |case: &Case| {
+            !case.offer.is_empty() && planner::study(&case.file).is_ok_and(|study| fits(&study))
+        };
+        cases.find(whole).expect("most small cases are readable")
     }
 
     /// The table's lines on the programs, once all cases are through them.
@@ -150,16 +192,19 @@ impl Runner {
         let mut lines = Vec::new();
         if let Some(command) = &self.options.answers {
             self.stream.compare_all(command)?;
-            let readable = (0..).map(|index| generate::case(self.options.seed, index, usize::MAX));
-            let whole = |case: &Case| planner::study(&case.file).is_ok() && !case.offer.is_empty();
-            let case = readable.into_iter().find(whole).expect("most small cases are readable");
-            answers::compare_cuts(command, &case)?;
+            answers::compare_cuts(command, &self.readable(|_| true))?;
             let wanted = self.options.lines.min(self.options.cases);
             lines.push(line("cases through answers", self.stream.len(), wanted));
         }
         if let Some(command) = &self.options.plan {
             plans::compare_lengths(command, self.options.seed)?;
             lines.extend(self.plans.lines());
+        }
+        if let Some(command) = &self.options.why {
+            whys::compare_lengths(command, self.options.seed)?;
+            let with_step = |study: &Study| study.file.nodes.len() > 1;
+            whys::compare_odd(command, &self.readable(with_step))?;
+            lines.extend(self.whys.lines());
         }
         Ok(lines)
     }
@@ -186,8 +231,8 @@ impl Runner {
 fn main() -> ExitCode {
     let done = options().and_then(|options| {
         let (coverage, stream) = (Coverage::default(), answers::Stream::default());
-        let (plans, in_library) = (plans::Plans::default(), Duration::ZERO);
-        Runner { options, coverage, stream, plans, in_library }.all()
+        let (plans, whys) = (plans::starts(), whys::starts());
+        Runner { options, coverage, stream, plans, whys, in_library: Duration::ZERO }.all()
     });
     match done {
         Ok(()) => {

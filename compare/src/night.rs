@@ -2,6 +2,7 @@
 
 use crate::planner::study;
 use crate::text;
+use crate::why::{Question, verdicts};
 
 const TEXT: &str = "\
 total 14 steps 76
@@ -32,6 +33,10 @@ pub fn check(bytes: &[u8]) -> Result<(), String> {
     expect("75 steps allowed", &fewer, "refused 13 place 0\n")?;
     expect("740 bytes", &bytes[..740], "refused 3 place 0\n")?;
     expect("742 bytes", &[bytes, &[0]].concat(), "refused 3 place 0\n")?;
+    let why = text::why(&verdicts(&study(bytes), &[Question { node: 3, subject: 1 }])[0]);
+    if why != "result 3 0,4\n" {
+        return Err(format!("the sample night, why subject 1 is out of node 3: {why}"));
+    }
     let candidates = study(bytes).map(|study| study.candidates);
     let step = vec![0, 2, 3, 4, 5];
     let printed = [vec![], vec![0, 1, 2, 3, 4, 5], vec![], step.clone(), step, vec![2, 4]];

@@ -2,7 +2,7 @@
 //! the two planning calls.
 
 use crate::choice::{self, Options};
-use crate::file::{File, Work};
+use crate::file::{File, Node, Work};
 use crate::reading::{Refusal, read, refuse};
 use crate::sets::{Flags, Ties};
 use crate::views::{Profile, View, may_have, of_subject};
@@ -13,7 +13,7 @@ pub struct Study {
     pub views: Vec<View>,
     pub candidates: Vec<Vec<usize>>,
     pub plan: Plan,
-    root_ties: Ties,
+    pub tables: Vec<Vec<Profile>>,
 }
 
 #[derive(Clone, PartialEq, Debug)]
@@ -48,32 +48,40 @@ pub struct Rooms {
 pub fn study(bytes: &[u8]) -> Result<Study, Refusal> {
     let file = read(bytes)?;
     let views: Vec<View> = (0..file.subjects).map(|subject| of_subject(&file, subject)).collect();
-    let (candidates, root) = candidates(&file, &views, |_| {});
+    let tables = tables(&file, |_| {});
+    let candidates = candidates(&file, &views, &tables);
     let plan = plan(&file);
-    Ok(Study { file, views, candidates, plan, root_ties: root.ties })
+    Ok(Study { file, views, candidates, plan, tables })
 }
 
-/// Each node's candidates, over tables worked out upwards, and the root's table.
-/// The rules alter no table once it is worked out; `alter` is for those who do.
-pub fn candidates(
-    file: &File,
-    views: &[View],
-    alter: impl Fn(&mut Profile),
-) -> (Vec<Vec<usize>>, Profile) {
-    let mut tables: Vec<Profile> = Vec::new();
-    let mut candidates = Vec::new();
+fn result(tables: &[Profile]) -> &Profile {
+    tables.last().expect("every node has a result")
+}
+
+/// Of each node its operands' least views, and last its result, worked out
+/// upwards. The rules alter no table once it is worked out; `alter` is for those
+/// who do.
+pub fn tables(file: &File, alter: impl Fn(&mut Profile)) -> Vec<Vec<Profile>> {
+    let mut tables: Vec<Vec<Profile>> = Vec::new();
     for node in &file.nodes {
-        let mut asked: Vec<Profile> =
-            node.work.children().map(|c| tables[c].with_clear(&node.needed)).collect();
-        let mut result = Profile::result(&node.work, &asked);
+        let mut of_node: Vec<Profile> =
+            node.work.children().map(|c| result(&tables[c]).with_clear(&node.needed)).collect();
+        let mut result = Profile::result(&node.work, &of_node);
         alter(&mut result);
-        asked.push(result.clone());
+        of_node.push(result);
+        tables.push(of_node);
+    }
+    tables
+}
+
+/// Each node's candidates.
+pub fn candidates(file: &File, views: &[View], tables: &[Vec<Profile>]) -> Vec<Vec<usize>> {
+    let of_node = |(node, asked): (&Node, &Vec<Profile>)| {
         let fits = |&subject: &usize| asked.iter().all(|table| may_have(&views[subject], table));
         let steps_alone = if node.work.is_leaf() { 0 } else { file.subjects };
-        candidates.push((0..steps_alone).filter(fits).collect());
-        tables.push(result);
-    }
-    (candidates, tables.pop().expect("a file has a node"))
+        (0..steps_alone).filter(fits).collect()
+    };
+    file.nodes.iter().zip(tables).map(of_node).collect()
 }
 
 /// Openings and sealings: the same for every choice.
@@ -141,9 +149,13 @@ impl Study {
         (0..choice.len()).find(|&node| !options[node].contains(&choice[node]))
     }
 
+    fn root_ties(&self) -> &Ties {
+        &result(&self.tables[self.file.root()]).ties
+    }
+
     /// How many attributes the widest of the root's tied sets has.
     pub fn widest_tie(&self) -> usize {
-        self.root_ties.sets().iter().map(|set| set.list().len()).max().unwrap_or(0)
+        self.root_ties().sets().iter().map(|set| set.list().len()).max().unwrap_or(0)
     }
 
     /// Whether some chosen subject sees an attribute of a leaf below its step
@@ -163,7 +175,7 @@ impl Study {
         let mut keys = Vec::new();
         while let Some(&lowest) = waiting.first() {
             let (attributes, rest) =
-                waiting.iter().partition(|&&other| self.root_ties.together(lowest, other));
+                waiting.iter().partition(|&&other| self.root_ties().together(lowest, other));
             waiting = rest;
             let group = Flags::of(&attributes);
             let mut holders = Flags::NONE;

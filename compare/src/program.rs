@@ -1,27 +1,48 @@
-//! Programs: bytes over their standard input, the text they print.
+//! Programs: words after their name, bytes over their standard input, the text
+//! they print.
 
+use std::ffi::OsStr;
 use std::io::Write;
+use std::os::unix::ffi::OsStrExt;
 use std::path::Path;
 use std::process::{Command, Stdio};
 
-/// Runs a program, or a shell command, on the input.
-pub fn ask(command: &str, input: Vec<u8>) -> Result<String, String> {
+/// What a program printed, and what it said over standard error.
+pub struct Said {
+    pub printed: String,
+    pub error: String,
+}
+
+/// Runs a program, or a shell command to which the words are appended, on the
+/// input.
+pub fn ask(command: &str, words: &[&[u8]], input: &[u8]) -> Result<Said, String> {
     let mut asked = if Path::new(command).is_file() {
         Command::new(command)
     } else {
         let mut shell = Command::new("sh");
-        shell.args(["-c", command]);
+        shell.args(["-c", &format!("{command} \"$@\""), "sh"]);
         shell
     };
-    let text = |error: std::io::Error| format!("{command}: {error}");
-    let mut child = asked.stdin(Stdio::piped()).stdout(Stdio::piped()).spawn().map_err(text)?;
+    asked.args(words.iter().map(|word| OsStr::from_bytes(word)));
+    asked.stdin(Stdio::piped()).stdout(Stdio::piped()).stderr(Stdio::piped());
+    let told = |error: std::io::Error| format!("{command}: {error}");
+    let mut child = asked.spawn().map_err(told)?;
     let mut stdin = child.stdin.take().expect("piped");
     // A thread of its own, or both sides would wait for each other's pipe. A
     // run that ends early need not read on, so a broken pipe is no fault.
-    let writer = std::thread::spawn(move || {
-        let _ = stdin.write_all(&input);
-    });
-    let output = child.wait_with_output().map_err(text)?;
-    writer.join().map_err(|_| "the writing thread failed".to_owned())?;
-    String::from_utf8(output.stdout).map_err(|_| format!("{command}: printed no text"))
+    let output = std::thread::scope(|scope| {
+        scope.spawn(move || {
+            let _ = stdin.write_all(input);
+        });
+        child.wait_with_output().map_err(told)
+    })?;
+    let text = |bytes| String::from_utf8(bytes).map_err(|_| format!("{command}: printed no text"));
+    Ok(Said { printed: text(output.stdout)?, error: text(output.stderr)? })
+}
+
+/// The text alone; what is said over standard error is passed on.
+pub fn printed(command: &str, words: &[&[u8]], input: &[u8]) -> Result<String, String> {
+    let said = ask(command, words, input)?;
+    eprint!("{}", said.error);
+    Ok(said.printed)
 }

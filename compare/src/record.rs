@@ -4,6 +4,7 @@ use crate::generate::Case;
 use crate::planner::{Answer, Rooms, Study};
 use crate::reading::Refusal;
 use crate::sets::Flags;
+use crate::why::{Question, Reason, Verdict};
 
 /// Elements kept beyond each room, which no call may touch.
 const GUARD: usize = 8;
@@ -18,6 +19,15 @@ pub struct Outcome {
     pub steps: u32,
 }
 
+/// What a question brings, and all that it leaves in the numbers passed.
+#[derive(PartialEq, Debug)]
+pub struct Told {
+    pub code: u64,
+    pub table: u8,
+    pub condition: u8,
+    pub set: u64,
+}
+
 #[derive(PartialEq, Debug)]
 pub struct Record {
     pub check: u64,
@@ -25,6 +35,7 @@ pub struct Record {
     pub grants: [u64; 3],
     /// Of each node asked: code and set.
     pub candidates: Vec<(u64, u16)>,
+    pub whys: Vec<Told>,
     pub cheapest: Outcome,
     pub offered: Outcome,
 }
@@ -83,11 +94,44 @@ impl Outcome {
     }
 }
 
+impl Told {
+    /// What a call that writes nothing leaves.
+    pub fn untouched(fill: u8) -> Told {
+        Told { code: 0, table: fill, condition: fill, set: u64::from_ne_bytes([fill; 8]) }
+    }
+
+    fn expected(verdict: &Verdict, fill: u8) -> Told {
+        match verdict {
+            Err(refusal) => Told { code: code(refusal), ..Told::untouched(fill) },
+            Ok(None) => Told { code: 0, table: 0, condition: 0, set: 0 },
+            Ok(Some(Reason { table, condition, attributes })) => Told {
+                code: 0,
+                table: 1 + *table as u8,
+                condition: *condition as u8,
+                set: Flags::of(attributes).bits(),
+            },
+        }
+    }
+}
+
+impl Record {
+    /// How the records of one case differ, if they do: of many questions the
+    /// first that is answered otherwise.
+    pub fn difference(&self, given: &Record, questions: &[Question]) -> Option<String> {
+        let both = self.whys.iter().zip(&given.whys);
+        let other = questions.iter().zip(both).find(|(_, (expected, given))| expected != given);
+        if let Some((asked, (expected, given))) = other {
+            return Some(format!("why {asked:?}\nexpected {expected:?}\ngiven    {given:?}"));
+        }
+        (self != given).then(|| format!("expected {self:?}\ngiven    {given:?}"))
+    }
+}
+
 pub fn code(refusal: &Refusal) -> u64 {
     refusal.number << 32 | refusal.place
 }
 
-pub fn expected(study: &Result<Study, Refusal>, case: &Case) -> Record {
+pub fn expected(study: &Result<Study, Refusal>, verdicts: &[Verdict], case: &Case) -> Record {
     let untouched = u64::from_ne_bytes([case.fill; 8]);
     let candidates = |&node: &usize| match study {
         Err(refusal) => (code(refusal), untouched as u16),
@@ -107,6 +151,7 @@ pub fn expected(study: &Result<Study, Refusal>, case: &Case) -> Record {
         check: study.as_ref().err().map_or(0, code),
         grants,
         candidates: case.asked.iter().map(candidates).collect(),
+        whys: verdicts.iter().map(|verdict| Told::expected(verdict, case.fill)).collect(),
         cheapest: Outcome::expected(study, case, |study| study.cheapest(&case.rooms)),
         offered: Outcome::expected(study, case, |study| study.offered(&case.offer, &case.rooms)),
     }

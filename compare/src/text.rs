@@ -2,6 +2,7 @@
 
 use crate::planner::{Answer, Rooms, Study};
 use crate::reading::Refusal;
+use crate::why::{Reason, Table, Verdict};
 
 /// Room that the program `plan` lends, and `answers` at most.
 pub const WIDEST: Rooms = Rooms { choice: 64, plan: 128, keys: 128 };
@@ -37,8 +38,28 @@ fn told(
 ) -> String {
     match study.as_ref().map_err(|refusal| *refusal).and_then(ask) {
         Ok(lines) => lines,
-        Err(refusal) => format!("{word}refused {} place {}\n", refusal.number, refusal.place),
+        Err(refusal) => word.to_owned() + &refused(&refusal),
     }
+}
+
+fn refused(refusal: &Refusal) -> String {
+    format!("refused {} place {}\n", refusal.number, refusal.place)
+}
+
+/// What `why` prints.
+pub fn why(verdict: &Verdict) -> String {
+    let reason = match verdict {
+        Ok(Some(reason)) => reason,
+        Ok(None) => return "candidate\n".into(),
+        Err(refusal) => return refused(refusal),
+    };
+    let Reason { table, condition, attributes } = reason;
+    let table = match table {
+        Table::Left => "left",
+        Table::Right => "right",
+        Table::Result => "result",
+    };
+    format!("{table} {condition} {}\n", list(attributes))
 }
 
 /// What `plan` prints.

@@ -2,5 +2,6 @@
 pub mod Marked
 pub mod Leaves
 pub mod Once
+pub mod Why
 pub mod SampleRuns
 pub mod Demand3

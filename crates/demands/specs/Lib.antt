@@ -3,5 +3,6 @@ pub mod SampleNight
 pub mod Marked
 pub mod Leaves
 pub mod Once
+pub mod Why
 pub mod SampleRuns
 pub mod Demand3

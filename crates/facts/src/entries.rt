@@ -3,10 +3,14 @@ use crate::wide;
 use layout::values;
 use planning::CheapestPlan;
 use planning::OfferedPlan;
+use planning::SubjectStanding;
 use reading::Checked;
+use show::lines;
 use show::rooms;
+ghost use Prim.Native.Nat.{_+_, _≤_};
+ghost use lib.ListN.{length};
 
-// Asks the entry: 1 cheapest, 2 offered, else check. `how` holds the entry and the lengths of the rooms.
+// Asks the entry: 1 cheapest, 2 offered, 3 why, else check. `how` holds the entry and the lengths of the rooms.
 pub(crate) fn ask(how: &[u8], offer: &[u8], file: &[u8]) {
     if how.len() < 4 {
         return;
@@ -17,6 +21,8 @@ pub(crate) fn ask(how: &[u8], offer: &[u8], file: &[u8]) {
         cheapest(file, wide(how[1]), plan, keys);
     } else if how[0] == 2 {
         offered(file, offer, plan, keys);
+    } else if how[0] == 3 {
+        reason(file, offer);
     } else {
         check(file);
     }
@@ -98,6 +104,31 @@ fn offered(file: &[u8], offer: &[u8], p: usize, k: usize) {
     }
 }
 
+// Why a subject is out of a step. The offer holds the node and the subject, four bytes each.
+fn reason(file: &[u8], offer: &[u8]) {
+    if offer.len() < 8 {
+        return;
+    }
+    match planning::why(file, four(offer, 0), four(offer, 4)) {
+        SubjectStanding::Candidate => candidate(),
+        SubjectStanding::Out {
+            table,
+            condition,
+            set,
+        } => out(table, condition, set),
+        SubjectStanding::Refused { number, place } => refused(number, place),
+    }
+}
+
+// The 32-bit number at `at`, big-endian.
+fn four(bytes: &[u8], at: usize) -> u32
+    requires { ⌜ at + 4 ≤ length (now bytes) ⌝ }
+{
+    let high = wide(bytes[at]) * 256 + wide(bytes[at + 1]);
+    let low = wide(bytes[at + 2]) * 256 + wide(bytes[at + 3]);
+    (high * 65536 + low) as u32
+}
+
 // Whether all three rooms kept what had to stay.
 fn told(choice: bool, plan: bool, keys: bool) {
     if choice && plan && keys {
@@ -109,6 +140,15 @@ fn told(choice: bool, plan: bool, keys: bool) {
 
 fn accepted() {
     io::write_all(1, b": accepted");
+}
+
+fn candidate() {
+    io::write_all(1, b": candidate");
+}
+
+fn out(table: u8, condition: u8, set: u64) {
+    io::write_all(1, b": ");
+    lines::reason(table, condition, set);
 }
 
 fn costs(total: u64) {

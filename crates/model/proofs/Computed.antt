@@ -1,18 +1,22 @@
--- Two choices of the same total, by computation.
+-- Two choices of the same total, and how subjects stand to small steps, by computation.
 use Prim.Native.Nat.{ℕ, zero, suc, _<_}
 use mathlib.Core.Path.{_≡_, refl, sym}
 use native.Mathlib.Omega.{arith}
+use lib.Count.{trailingZeros}
 use Rattle.laws.specs.Choose.{anyOf}
 use Rattle.laws.specs.First.{first, somewhere}
 use Rattle.laws.specs.Sums.{sum}
+use Rattle.laws.specs.Trials.{verdict}
 use Rattle.laws.specs.Upwards.{upwards}
-use Rattle.sets.specs.Sets.{In, bit, member, union, meet, minus, within, single, unions}
+use Rattle.sets.specs.Sets.{In, bit, member, union, meet, minus, within, single, lowest, unions}
 use Rattle.night.specs.Night.{relationOf, grantOf, nodeOf, stepPrice, linkPrice}
 use Rattle.night.specs.Kinds.{usesLeft, usesRight, reads, readTogether, visibleAfter}
 use Rattle.night.specs.Views.{isFor, grantFor, viewOf, clearOf, sealedOf}
 use Rattle.model.specs.Ties.{gathered, tie, merged}
 use Rattle.model.specs.Tables.{leastView, tests, ties, joined, result, leafTable, stepTable, tableStep, tables, tableOf}
 use Rattle.model.specs.Candidates.{clearOffends, sealedOffends, tiedOffends, may, mayTake, isCandidate, candidateSet}
+use Rattle.model.specs.Reasons.{lookedAt, conditions, reasons, offending, standing}
+use Rattle.model.specs.Standings.{Standings}
 use Rattle.model.specs.Choice.{Choice, Admissible, ownerOf, handed, costAt, total}
 use Rattle.model.specs.Order.{evenNight, smallerLast, smallerFirst, ReadFromLast}
 
@@ -54,4 +58,32 @@ read-from-last =
       first-may = admitted smallerFirst refl refl refl;
       same-total = same-total;
       first-not = λ L. L .earliest smallerLast last-may (sym same-total) (record { node = 2; there = omega arith; smaller = omega arith; same-after = λ j l m. absurd (omega arith) });
+    }
+
+pub standings : Standings
+unfolding anyOf first somewhere upwards verdict bit member union meet minus within single lowest trailingZeros nodeOf usesRight reads readTogether visibleAfter gathered tie merged leastView tests ties joined result leafTable stepTable tableStep tables tableOf clearOffends sealedOffends tiedOffends lookedAt conditions reasons offending standing
+standings =
+    record {
+      candidate = refl;
+      left-1 = refl;
+      left-2 = refl;
+      left-3 = refl;
+      right-1 = refl;
+      right-2 = refl;
+      right-3 = refl;
+      result-3 = refl;
+      one-operand = refl;
+      no-right = refl;
+      first-before-second = refl;
+      second-before-third = refl;
+      left-before-right = refl;
+      right-before-result = refl;
+      lowest-clear = refl;
+      lowest-sealed = refl;
+      lowest-visible = refl;
+      lowest-hidden = refl;
+      lowest-of-two = refl;
+      first-tied = refl;
+      tied-alone = refl;
+      tied-sealed = refl;
     }

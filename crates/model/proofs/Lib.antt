@@ -2,6 +2,9 @@
 pub mod Chains
 pub mod Merged
 pub mod May
+pub mod Reasons
+pub mod Offending
+pub mod ResultTied
 pub mod TableLaws
 pub mod Meaning
 pub mod Kept

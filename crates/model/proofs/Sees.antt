@@ -2,14 +2,15 @@
 use Prim.Native.Nat.{ℕ, _<_}
 use mathlib.Core.Path.{_≡_, refl}
 use mathlib.Core.Bool.{Bool, true, false}
-use mathlib.Core.Logic.{_⊎_, inl, inr, ⊎-elim}
+use mathlib.Core.Logic.{_⊎_, inl, inr, ⊎-elim, _↔_}
 use lib.ListN.{getD}
 use Rattle.laws.specs.Choose.{if_then_else_}
 use Rattle.sets.specs.Sets.{In, Within, union, minus, within}
 use Rattle.sets.proofs.Members.{same-members, in-or-not, in-union, in-minus, in-none, within-exactly}
 use Rattle.sets.proofs.Words.{not-within}
 use Rattle.model.specs.declared.Table.{Table}
-use Rattle.model.specs.Candidates.{clearOffends, sealedOffends, tiedOffends, May}
+use Rattle.model.specs.Candidates.{clearOffends, sealedOffends, tiedOffends, ClearHolds, SealedHolds, TiedHolds, May}
+use Rattle.model.specs.Reasons.{ClearLies, SealedLies, TiedLies}
 use Rattle.model.proofs.Lowest.{clash}
 
 -- what is visible or implicit in clear is in P, what is so sealed in P or E, and of a tied set all is in P or all in E
@@ -32,25 +33,25 @@ inside a b f =
     absurd (w .1 (f k (w .0))))
     (λ k h. absurd (in-none k h))
 
--- that is when the subject may have it
+-- each condition by its offending set or tied set, and in document 01's words
 module _ (t : Table) (P E : ℕ) where
-  tied-fine : ((a b c : ℕ) → a < 64 → In b (getD (t .tied) a 0) → In c (getD (t .tied) a 0) → (In b P → ⊥) → (In c E → ⊥) → ⊥)
-      → (k : ℕ) → k < 64 → tiedOffends t P E k ≡ false
-  unfolding tiedOffends
-  tied-fine f k l = go (within m P) (within m E) refl refl
-    where
-      m : ℕ
-      m = getD (t .tied) k 0
+  pub clear-lies : ClearHolds t P E ↔ ClearLies t P E
+  unfolding clearOffends
+  clear-lies = (
+    λ e.
+        let one = outside (union (t .clear) (t .tested)) P e in
+        (λ a h. one a (in-union (t .clear) (t .tested) a .1 (inl h)), λ a h. one a (in-union (t .clear) (t .tested) a .1 (inr h))),
+    λ w. inside _ P (λ a h. ⊎-elim (w .0 a) (w .1 a) (in-union (t .clear) (t .tested) a .0 h)),
+  )
 
-      go : (x y : Bool) → within m P ≡ x → within m E ≡ y → (if x then false else if y then false else true) ≡ false
-      go true y p q = refl
-      go false true p q = refl
-      go false false p q =
-          let b = not-within m P p in
-          let c = not-within m E q in
-          absurd (f k (b .0) (c .0) l (b .1) (c .1) (b .2) (c .2))
+  pub sealed-lies : SealedHolds t P E ↔ SealedLies t P E
+  unfolding sealedOffends
+  sealed-lies = (
+    λ e a h. in-union P E a .0 (outside (union (t .sealed) (t .hidden)) (union P E) e a (in-union (t .sealed) (t .hidden) a .1 h)),
+    λ w. inside _ (union P E) (λ a h. in-union P E a .1 (w a (in-union (t .sealed) (t .hidden) a .0 h))),
+  )
 
-  tied-whole : (k : ℕ) → tiedOffends t P E k ≡ false → Within (getD (t .tied) k 0) P ⊎ Within (getD (t .tied) k 0) E
+  pub tied-whole : (k : ℕ) → tiedOffends t P E k ≡ false → Within (getD (t .tied) k 0) P ⊎ Within (getD (t .tied) k 0) E
   unfolding tiedOffends
   tied-whole k e = go (within m P) (within m E) refl refl e
     where
@@ -62,24 +63,48 @@ module _ (t : Table) (P E : ℕ) where
       go false true p q e = inr (within-exactly m E .0 q)
       go false false p q e = absurd (clash e)
 
+  whole-tied : (k : ℕ) → Within (getD (t .tied) k 0) P ⊎ Within (getD (t .tied) k 0) E → tiedOffends t P E k ≡ false
+  unfolding tiedOffends
+  whole-tied k (inl w) = rw (within-exactly (getD (t .tied) k 0) P .1 w) refl
+  whole-tied k (inr w) = rw (within-exactly (getD (t .tied) k 0) E .1 w) (go (within (getD (t .tied) k 0) P))
+    where
+      go : (x : Bool) → (if x then false else false) ≡ false
+      go true = refl
+      go false = refl
+
+  pub tied-lies : TiedHolds t P E ↔ TiedLies t P E
+  tied-lies = (λ e k l. tied-whole k (e k l), λ w k l. whole-tied k (w k l))
+
+  -- a tied set of which b is outside P and c outside E
+  apart-tied : ((a b c : ℕ) → a < 64 → In b (getD (t .tied) a 0) → In c (getD (t .tied) a 0) → (In b P → ⊥) → (In c E → ⊥) → ⊥) → TiedLies t P E
+  apart-tied f k l = go (within m P) (within m E) refl refl
+    where
+      m : ℕ
+      m = getD (t .tied) k 0
+
+      go : (x y : Bool) → within m P ≡ x → within m E ≡ y → Within m P ⊎ Within m E
+      go true y p q = inl (within-exactly m P .0 p)
+      go false true p q = inr (within-exactly m E .0 q)
+      go false false p q =
+          let b = not-within m P p in
+          let c = not-within m E q in
+          absurd (f k (b .0) (c .0) l (b .1) (c .1) (b .2) (c .2))
+
+  -- that is when the subject may have it
   pub may-sees : May t P E → Sees t P E
-  unfolding clearOffends sealedOffends
   may-sees m =
-      let one : Within (union (t .clear) (t .tested)) P = outside _ P (m .first) in
-      let two : Within (union (t .sealed) (t .hidden)) (union P E) = outside _ (union P E) (m .second) in
       record {
-        clear = λ a h. one a (in-union (t .clear) (t .tested) a .1 (inl h));
-        tested = λ a h. one a (in-union (t .clear) (t .tested) a .1 (inr h));
-        sealed = λ a h. in-union P E a .0 (two a (in-union (t .sealed) (t .hidden) a .1 (inl h)));
-        hidden = λ a h. in-union P E a .0 (two a (in-union (t .sealed) (t .hidden) a .1 (inr h)));
-        tied = λ a b c l hb hc out off. ⊎-elim (λ w. out (w b hb)) (λ w. off (w c hc)) (tied-whole a (m .third a l));
+        clear = clear-lies .0 (m .first) .0;
+        tested = clear-lies .0 (m .first) .1;
+        sealed = λ a h. sealed-lies .0 (m .second) a (inl h);
+        hidden = λ a h. sealed-lies .0 (m .second) a (inr h);
+        tied = λ a b c l hb hc out off. ⊎-elim (λ w. out (w b hb)) (λ w. off (w c hc)) (tied-lies .0 (m .third) a l);
       }
 
   pub sees-may : Sees t P E → May t P E
-  unfolding clearOffends sealedOffends
   sees-may s =
       record {
-        first = inside _ P (λ a h. ⊎-elim (s .clear a) (s .tested a) (in-union (t .clear) (t .tested) a .0 h));
-        second = inside _ (union P E) (λ a h. in-union P E a .1 (⊎-elim (s .sealed a) (s .hidden a) (in-union (t .sealed) (t .hidden) a .0 h)));
-        third = tied-fine (s .tied);
+        first = clear-lies .1 (s .clear, s .tested);
+        second = sealed-lies .1 (λ a. ⊎-elim (s .sealed a) (s .hidden a));
+        third = tied-lies .1 (apart-tied (s .tied));
       }

@@ -1,7 +1,9 @@
--- Tables, candidates, the cheapest choice, the built plan, and demand 3 over a night.
+-- Tables, candidates, why a subject is none, the cheapest choice, the built plan, and demand 3 over a night.
 pub mod Ties
 pub mod Tables
 pub mod Candidates
+pub mod Reasons
+pub mod Standings
 pub mod Choice
 pub mod Order
 pub mod Dp

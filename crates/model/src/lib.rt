@@ -16,3 +16,17 @@ pub struct Best {
     pub least: u64,
     pub lowest: u8,
 }
+
+// The tables that are looked at for a step's subject, in this order: the left operand's least view, the right one's, the result.
+pub const LEFT: u8 = 1;
+
+pub const RIGHT: u8 = 2;
+
+pub const RESULT: u8 = 3;
+
+// How a subject stands to a step: it is a candidate, or out by the first condition that fails, with the number of the table, the condition
+// and the set that offends.
+pub enum Standing {
+    Candidate,
+    Out { table: u8, condition: u8, set: u64 },
+}

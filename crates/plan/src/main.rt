@@ -1,13 +1,13 @@
 // Reads a plan file from standard input and prints the cheapest plan, or the refusal.
 use layout::values;
 use planning::CheapestPlan;
+use show::input;
 use show::lines;
 
-// The input is cut one byte past the longest file, so that a longer one is refused by its length.
 fn main() {
-    let mut input = [0u8; 11968];
-    let n = io::read_full(0, &mut input);
-    answer(&input[..n]);
+    let mut room = [0u8; input::ROOM];
+    let file = input::read(&mut room);
+    answer(file);
 }
 
 // Plans the file and prints what comes of it.

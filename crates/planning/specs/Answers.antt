@@ -14,7 +14,10 @@ use Rattle.layout.specs.Layout.{nightOf}
 use Rattle.model.specs.Candidates.{Candidate, candidateSet}
 use Rattle.model.specs.Choice.{Choice, Least, total, steps}
 use Rattle.model.specs.Plan.{built, planRoom, keysRoom}
-use Rattle.verdicts.specs.Refusals.{Rooms, cheapestPlanTrials, offeredPlanTrials}
+use Rattle.model.specs.Reasons.{standing}
+use Rattle.model.specs.declared.Standing.{Standing}
+use Rattle.model.specs.declared.Standing.the-variants.{Candidate as IsCandidate, Out as IsOut}
+use Rattle.verdicts.specs.Refusals.{Rooms, whyTrials, cheapestPlanTrials, offeredPlanTrials}
 use Rattle.trials.specs.Trials.{trials}
 use Rattle.reading.specs.declared.Checked.{Checked}
 use Rattle.reading.specs.declared.Checked.the-variants.{Accepted, Refused}
@@ -24,6 +27,8 @@ use Rattle.choosing.specs.declared.Offered.{Offered}
 use Rattle.choosing.specs.declared.Offered.the-variants.{Costs, Refused as NotCosted}
 use Rattle.planning.specs.declared.CandidateSet.{CandidateSet}
 use Rattle.planning.specs.declared.CandidateSet.the-variants.{Among, Refused as NoCandidates}
+use Rattle.planning.specs.declared.SubjectStanding.{SubjectStanding}
+use Rattle.planning.specs.declared.SubjectStanding.the-variants.{Candidate as SaysCandidate, Out as SaysOut, Refused as NotAsked}
 use Rattle.planning.specs.declared.CheapestPlan.{CheapestPlan}
 use Rattle.planning.specs.declared.CheapestPlan.the-variants.{Cheapest as CheapestWith, Refused as NoCheapest}
 use Rattle.planning.specs.declared.OfferedPlan.{OfferedPlan}
@@ -34,7 +39,7 @@ abbrev pub candidatesSaid : CandidateSet → Says ℕ
 candidatesSaid (Among set) = answers set
 candidatesSaid (NoCandidates n p) = refuses n p
 
--- reading's refusal as this answer
+-- reading's refusal as this answer (an acceptance is never handed in)
 abbrev pub passedUp : Checked → CandidateSet
 passedUp (Accepted h) = Among 0
 passedUp (Refused n p) = NoCandidates n p
@@ -58,6 +63,30 @@ abbrev pub NoneElsewhere : Type 0
 NoneElsewhere =
     (s : List ℕ) (i set : ℕ) → candidatesOf s i ≡ answers set
     → (nightOf s .header .nodes ≤ i) ⊎ (nodeOf (nightOf s) i .kind ≡ 0) → set ≡ 0
+
+-- `why`: how a subject stands to a step, or refused with number and place
+abbrev pub whySaid : SubjectStanding → Says Standing
+whySaid SaysCandidate = answers IsCandidate
+whySaid (SaysOut table condition set) = answers (IsOut table condition set)
+whySaid (NotAsked n p) = refuses n p
+
+-- reading's refusal as this answer (an acceptance is never handed in)
+abbrev pub unread : Checked → SubjectStanding
+unread (Accepted h) = SaysCandidate
+unread (Refused n p) = NotAsked n p
+
+-- how the subject stands, as this answer
+abbrev pub toldOf : Standing → SubjectStanding
+toldOf IsCandidate = SaysCandidate
+toldOf (IsOut table condition set) = SaysOut table condition set
+
+-- how subject p stands to step i by its view, where no trial fails
+unfoldable pub whyOf : List ℕ → ℕ → ℕ → Says Standing
+whyOf s i p = verdict (whyTrials s i p) (standing (nightOf s) i (clearOf (nightOf s) p) (sealedOf (nightOf s) p))
+
+-- any two answers that say the same are the same
+abbrev pub WhyOnce : Type 0
+WhyOnce = (a b : SubjectStanding) → whySaid a ≡ whySaid b → a ≡ b
 
 -- plan and keys once they are written for the subjects of a choice
 abbrev pub WrittenFor : Night → Header → List ℕ → List ℕ → List ℕ → List ℕ → List ℕ → Type 0

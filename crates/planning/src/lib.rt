@@ -1,13 +1,15 @@
 // The entries of the planner. Each takes any bytes, asks nothing of its caller, and answers or refuses with a number and a place.
+mod reasons;
 mod rooms;
 
 use choosing::Cheapest;
 use choosing::Offered;
 use layout::values;
+use model::Standing;
 use reading::Checked;
 ghost use mathlib.Core.Path.{_≡_};
 ghost use mathlib.Core.List.{[]};
-ghost use Rattle.planning.specs.Answers.{candidatesSaid, candidatesOf, passedUp, choicePassedUp, CheapestSays, offerPassedUp, OfferedSays};
+ghost use Rattle.planning.specs.Answers.{candidatesSaid, candidatesOf, passedUp, whySaid, whyOf, unread, toldOf, choicePassedUp, CheapestSays, offerPassedUp, OfferedSays};
 
 // The candidates of a node, as a set of subjects, or the refusal.
 pub enum CandidateSet {
@@ -34,6 +36,60 @@ pub fn candidates(file: &[u8], node: usize) -> CandidateSet
         return refused(answer);
     };
     CandidateSet::Among(eligible::candidate_set(file, h, node))
+}
+
+// Why a subject is out of a step: the table (1 the left operand's least view, 2 the right one's, 3 the result), the condition, and the lowest
+// attribute or the whole tied set that offends; or that it is a candidate, or the refusal.
+pub enum SubjectStanding {
+    Candidate,
+    Out { table: u8, condition: u8, set: u64 },
+    Refused { number: u8, place: u32 },
+}
+
+// Reading's refusal, passed up. (An acceptance is never handed in.)
+fn unread(answer: Checked) -> SubjectStanding
+    ensures { λ r. ⌜ r ≡ unread answer ⌝ }
+{
+    match answer {
+        Checked::Refused { number, place } => SubjectStanding::Refused { number, place },
+        Checked::Accepted(_) => SubjectStanding::Candidate,
+    }
+}
+
+// How a subject stands, as the answer.
+fn told(standing: Standing) -> SubjectStanding
+    ensures { λ r. ⌜ r ≡ toldOf standing ⌝ }
+{
+    match standing {
+        Standing::Candidate => SubjectStanding::Candidate,
+        Standing::Out {
+            table,
+            condition,
+            set,
+        } => SubjectStanding::Out {
+            table,
+            condition,
+            set,
+        },
+    }
+}
+
+// Why a subject is out of a step, or that it is a candidate.
+pub fn why(file: &[u8], node: u32, subject: u32) -> SubjectStanding
+    ensures { λ r. ⌜ whySaid r ≡ whyOf (now (file .entry)) node subject ⌝ }
+{
+    let answer = reading::check(file);
+    let Checked::Accepted(h) = answer else {
+        return unread(answer);
+    };
+    if reasons::not_asked(file, h, node, subject) {
+        return SubjectStanding::Refused {
+            number: 16,
+            place: node,
+        };
+    }
+    let view = views::overall(file, h, subject as u8);
+    told(reasons::standing(file, h, node as usize, view.clear, view.sealed))
 }
 
 // The cheapest plan: its total and the steps, or the refusal.

@@ -9,7 +9,7 @@ use native.Mathlib.Omega.{arith}
 use lib.Dec.{eqb}
 use lib.Pow.{pow-pos, pow-lt, pow-mono, pow-add, ones-lt}
 use lib.Bits.{or-lt, and-le-l}
-use lib.Count.{trailingZeros, under, trailing-of-zero, ones-step, ones-le}
+use lib.Count.{trailingZeros, under, trailing-of-zero, trailing-le, ones-step, ones-le}
 use borrow.Author.Tests.{ne-eqb, eqb-false}
 use Rattle.sets.specs.Sets.{bit, In, member, union, meet, minus, Within, within, apart, below, single, lowest, size, countBelow, unions}
 use Rattle.sets.proofs.Members.{same-below, same-members, below-pow, in-or-not, in-meet, in-minus, bit-lt, bit-zero, bit-suc, bit-none, bit-beyond, in-none}
@@ -116,6 +116,10 @@ pub lowest-low : (w S k : ℕ) → k < lowest w S → In k S → ⊥
 unfolding lowest trailingZeros
 lowest-low zero S k h = omega arith
 lowest-low (suc w) S k h = under-low S (S % 2) (trailingZeros w (S / 2)) k refl (lowest-low w (S / 2)) h
+
+pub lowest-most : (w S : ℕ) → lowest w S ≤ w
+unfolding lowest
+lowest-most w S = trailing-le w S
 
 pub lowest-none : (w : ℕ) → lowest w 0 ≡ w
 unfolding lowest

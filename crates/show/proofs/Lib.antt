@@ -1,2 +1,4 @@
--- Rooms that kept what stood in them.
+-- Rooms that kept what stood in them, and words as numbers.
 pub mod Kept
+pub mod Decimal
+pub mod Computed

@@ -26,6 +26,25 @@ pub fn refused(number: u8, place: u32) {
     end();
 }
 
+// Why a subject is out: the table, the condition and what offends.
+pub fn reason(table: u8, condition: u8, set: u64) {
+    table_word(table);
+    io::write_all(1, b" ");
+    io::print_decimal(1, condition as u64);
+    io::write_all(1, b" ");
+    members(set);
+}
+
+fn table_word(table: u8) {
+    if table == model::LEFT {
+        io::write_all(1, b"left");
+    } else if table == model::RIGHT {
+        io::write_all(1, b"right");
+    } else {
+        io::write_all(1, b"result");
+    }
+}
+
 // A line for each node.
 pub fn nodes(choice: &[u8], plan: &[u64], n: u8) {
     let mut i: usize = 0;

@@ -1,4 +1,5 @@
 // Rooms that a program lends: what stands in them before a call, and whether it still does.
+use crate::wide;
 ghost use mathlib.Core.Path.{_≡_};
 ghost use mathlib.Core.Bool.{false, not};
 ghost use lib.Dec.{eqb, ltb};
@@ -19,12 +20,6 @@ fn is_changed(found: u64, value: u64, i: usize, from: usize) -> bool
         return false;
     }
     found != value
-}
-
-fn wide(x: u8) -> u64
-    ensures { λ r. ⌜ r ≡ x ⌝ }
-{
-    x as u64
 }
 
 // Whether a room of bytes holds its first contents from here on.

@@ -7,10 +7,9 @@ use lib.ListN.{getD}
 use Rattle.laws.specs.Choose.{if_then_else_}
 use Rattle.sets.specs.Sets.{member, union, meet, minus}
 use Rattle.night.specs.declared.Node.{Node}
-use Rattle.night.specs.Kinds.{usesRight, visibleAfter}
 use Rattle.model.specs.declared.Table.{Table}
 use Rattle.model.specs.Ties.{gathered, tie, merged}
-use Rattle.model.specs.Tables.{shown, leastView, tests, ties, tieAll, joined, result, stepTable}
+use Rattle.model.specs.Tables.{shown, leastView, tests, ties, tieAll, joined, result}
 use Rattle.model.proofs.TableLaws.{gathered-more, merged-more}
 
 pub least-made : {visible c s : ℕ} (needed : ℕ) (t : Table) → visible ≡ shown t → c ≡ meet needed visible → s ≡ minus visible needed
@@ -40,16 +39,6 @@ pub result-made : {x a b c s d h : ℕ} {k : List ℕ} (v : Node) (after : ℕ) 
     → _≡_ {A = Table} (record { clear = c; sealed = s; tested = d; hidden = h; tied = k }) (result v after t)
 unfolding result
 result-made v after t tests clear sealed in-clear tested in-sealed hidden tied = cc
-
-pub step-made : {m n after : ℕ} {o u : Table} (v : Node) (l r : Table)
-    → m ≡ shown l
-    → n ≡ shown r
-    → after ≡ visibleAfter v m n
-    → o ≡ (if usesRight (v .kind) then joined (leastView (v .needed) l) (leastView (v .needed) r) else leastView (v .needed) l)
-    → u ≡ result v after o
-    → u ≡ stepTable v l r
-unfolding stepTable
-step-made v l r left right after taken made = cc
 
 pub gathered-turn : {all more next : ℕ} {b : Bool} (t : List ℕ) (s k : ℕ)
     → all ≡ gathered t s k

@@ -6,7 +6,7 @@ use rules::kinds;
 use sets::attributes;
 ghost use mathlib.Core.Path.{_≡_};
 ghost use Rattle.laws.specs.Choose.{if_then_else_};
-ghost use Rattle.night.specs.Kinds.{usesRight};
+ghost use Rattle.night.specs.Kinds.{usesRight, visibleAfter};
 ghost use Rattle.model.specs.Tables.{blank, shown, leastView, tests, ties, tieAll, joined, result, leafTable, stepTable};
 
 // No columns and no past.
@@ -116,22 +116,29 @@ fn result(v: Node, after: u64, t: Table) -> Table
 }
 
 // What the step has of its operands: their least views, joined where there are two.
-fn taken(v: Node, l: Table, r: Table) -> Table
-    ensures { λ t. ⌜ t ≡ (if usesRight (v .kind) then joined (leastView (v .needed) l) (leastView (v .needed) r) else leastView (v .needed) l) ⌝ }
+fn taken(v: Node, left: Table, right: Table) -> Table
+    ensures { λ t. ⌜ t ≡ (if usesRight (v .kind) then joined left right else left) ⌝ }
 {
     if kinds::uses_right(v.kind) {
-        return join(least_view(v.needed, l), least_view(v.needed, r));
+        return join(left, right);
     }
-    least_view(v.needed, l)
+    left
+}
+
+// The step's table over its operands' tables l and r, of which `left` and `right` are the least views.
+pub fn table_over(v: Node, l: Table, r: Table, left: Table, right: Table) -> Table
+    ensures { λ t. ⌜ t ≡ result v (visibleAfter v (shown l) (shown r)) (if usesRight (v .kind) then joined left right else left) ⌝ }
+{
+    result(
+        v,
+        kinds::visible_after(v, shown(l), shown(r)),
+        taken(v, left, right),
+    )
 }
 
 // The step's table over its operands' tables.
 pub fn step_table(v: Node, l: Table, r: Table) -> Table
     ensures { λ t. ⌜ t ≡ stepTable v l r ⌝ }
 {
-    result(
-        v,
-        kinds::visible_after(v, shown(l), shown(r)),
-        taken(v, l, r),
-    )
+    table_over(v, l, r, least_view(v.needed, l), least_view(v.needed, r))
 }

@@ -11,7 +11,7 @@ ghost use Rattle.night.specs.Night.{nodeOf};
 ghost use Rattle.model.specs.Tables.{blank, tableOf};
 
 // The table of operand c of node i: blank where it is not lower.
-fn table_of_operand(file: &[u8], h: Header, i: usize, c: u8) -> Table
+pub fn table_of_operand(file: &[u8], h: Header, i: usize, c: u8) -> Table
     ensures { λ r. ⌜ r ≡ (if ltb c i then tableOf (nightIn (now (file .entry)) h) c else blank) ⌝ }
 {
     let number = c as usize;

@@ -1,3 +1,4 @@
 -- What the numbers rest on.
 pub mod Coded
 pub mod Told
+pub mod Computed

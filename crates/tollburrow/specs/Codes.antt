@@ -1,18 +1,20 @@
 -- What the functions for other languages return: 0, or the refusal's number times 2^32 and its place. What they write where they are
 -- refused is what stood there.
-use Prim.Native.Nat.{ℕ, _+_, _-_, _*_, _/_, _%_, _^_}
+use Prim.Native.Nat.{ℕ, _+_, _-_, _*_, _/_, _%_, _^_, _<_}
 use mathlib.Core.Path.{_≡_}
 use mathlib.Core.List.{List}
 use Rattle.laws.specs.Trials.{Says, answers, refuses}
 use Rattle.night.specs.declared.Header.{Header}
 use Rattle.layout.specs.Layout.{grantsFrom, nodesFrom}
+use Rattle.model.specs.declared.Standing.{Standing}
+use Rattle.model.specs.declared.Standing.the-variants.{Candidate, Out}
 use Rattle.planning.specs.declared.CheapestPlan.{CheapestPlan}
 use Rattle.planning.specs.declared.CheapestPlan.the-variants.{Cheapest, Refused as NoCheapest}
 use Rattle.planning.specs.declared.OfferedPlan.{OfferedPlan}
 use Rattle.planning.specs.declared.OfferedPlan.the-variants.{Offered, Refused as NoOffered}
 use Rattle.trials.specs.Trials.{checkOf}
 use Rattle.verdicts.specs.Refusals.{Rooms}
-use Rattle.planning.specs.Answers.{candidatesOf, CheapestSays, OfferedSays}
+use Rattle.planning.specs.Answers.{candidatesOf, whyOf, CheapestSays, OfferedSays}
 
 -- a refusal as one number
 abbrev pub refusalCode : ℕ → ℕ → ℕ
@@ -44,6 +46,31 @@ partFrom (refuses n p) before = before
 abbrev pub partLength : Says Header → ℕ → ℕ
 partLength (answers h) before = nodesFrom h - grantsFrom h
 partLength (refuses n p) before = before
+
+-- how a subject stands, as numbers: table, condition and set, all 0 for a candidate
+abbrev pub tableNumber : Standing → ℕ
+tableNumber Candidate = 0
+tableNumber (Out table condition set) = table
+
+abbrev pub conditionNumber : Standing → ℕ
+conditionNumber Candidate = 0
+conditionNumber (Out table condition set) = condition
+
+abbrev pub namedSet : Standing → ℕ
+namedSet Candidate = 0
+namedSet (Out table condition set) = set
+
+-- which number is which
+pub record StandingNumbers : Type 0 where
+  pub table : tableNumber (Out 1 2 4) ≡ 1
+  pub condition : conditionNumber (Out 1 2 4) ≡ 2
+  pub set : namedSet (Out 1 2 4) ≡ 4
+  pub candidate : (tableNumber Candidate ≡ 0) × (conditionNumber Candidate ≡ 0) × (namedSet Candidate ≡ 0)
+
+-- one of these where a standing is answered, or what stood there
+abbrev pub standingOr : (Standing → ℕ) → Says Standing → ℕ → ℕ
+standingOr number (answers standing) before = number standing
+standingOr number (refuses n p) before = before
 
 -- total and steps that are answered, or what stood there
 abbrev pub totalOr : CheapestPlan → ℕ → ℕ
@@ -83,6 +110,7 @@ pub record Told (code number place : ℕ) : Type 0 where
 pub record CodesTold : Type 0 where
   pub check : (s : List ℕ) (n p : ℕ) → checkOf s ≡ refuses n p → Told (codeOf (checkOf s)) n p
   pub candidates : (s : List ℕ) (i n p : ℕ) → candidatesOf s i ≡ refuses n p → Told (codeOf (candidatesOf s i)) n p
+  pub why : (s : List ℕ) (i q n p : ℕ) → i < 2 ^ 32 → whyOf s i q ≡ refuses n p → Told (codeOf (whyOf s i q)) n p
   pub cheapest : (s : List ℕ) (before after : Rooms) (n p : ℕ) → CheapestSays s before after (NoCheapest n p) → Told (cheapestCode (NoCheapest n p)) n p
   pub offered : (s offer : List ℕ) (before after : Rooms) (n p : ℕ) → OfferedSays s offer before after (NoOffered n p)
       → Told (offeredCode (NoOffered n p)) n p

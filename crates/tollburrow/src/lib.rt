@@ -3,15 +3,16 @@ use layout::places;
 use planning::CandidateSet;
 use planning::CheapestPlan;
 use planning::OfferedPlan;
+use planning::SubjectStanding;
 use reading::Checked;
 ghost use mathlib.Core.Path.{_≡_};
 ghost use mathlib.Core.List.{[]};
 ghost use Prim.Native.Nat.{_+_, _*_};
 ghost use Rattle.reading.specs.Answers.{saidOf};
 ghost use Rattle.trials.specs.Trials.{checkOf};
-ghost use Rattle.planning.specs.Answers.{candidatesSaid, candidatesOf};
+ghost use Rattle.planning.specs.Answers.{candidatesSaid, candidatesOf, whyOf};
 ghost use Rattle.verdicts.specs.Refusals.{Rooms};
-ghost use Rattle.tollburrow.specs.Codes.{codeOf, orElse, partFrom, partLength, cheapestCode, offeredCode, CheapestOut, OfferedOut};
+ghost use Rattle.tollburrow.specs.Codes.{codeOf, orElse, partFrom, partLength, tableNumber, conditionNumber, namedSet, standingOr, cheapestCode, offeredCode, CheapestOut, OfferedOut};
 
 // A refusal as one number.
 fn code(number: u8, place: u32) -> u64
@@ -92,6 +93,39 @@ pub extern "C" fn tollburrow_candidates(file: &[u8], node: usize, set: &mut u16)
     };
     *set = among;
     0
+}
+
+// How a subject stands to a step: table, condition and set, all 0 for a candidate.
+#[no_mangle]
+pub extern "C" fn tollburrow_why(
+    file: &[u8],
+    node: u32,
+    subject: u32,
+    table: &mut u8,
+    condition: &mut u8,
+    set: &mut u64,
+) -> u64
+    ensures { λ r. ⌜ (r ≡ codeOf (whyOf (now (file .entry)) node subject)) × (now (table .exit) ≡ standingOr tableNumber (whyOf (now (file .entry)) node subject) (now (table .entry))) × (now (condition .exit) ≡ standingOr conditionNumber (whyOf (now (file .entry)) node subject) (now (condition .entry))) × (now (set .exit) ≡ standingOr namedSet (whyOf (now (file .entry)) node subject) (now (set .entry))) ⌝ }
+{
+    match planning::why(file, node, subject) {
+        SubjectStanding::Candidate => {
+            *table = 0;
+            *condition = 0;
+            *set = 0;
+            0
+        }
+        SubjectStanding::Out {
+            table: k,
+            condition: c,
+            set: named,
+        } => {
+            *table = k;
+            *condition = c;
+            *set = named;
+            0
+        }
+        SubjectStanding::Refused { number, place } => code(number, place),
+    }
 }
 
 // The cheapest choice and its plan.

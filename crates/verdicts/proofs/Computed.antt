@@ -19,11 +19,11 @@ use Rattle.model.specs.Candidates.{clearOffends, sealedOffends, tiedOffends, ma
 use Rattle.model.specs.Choice.{weight, stepsAt, steps}
 use Rattle.trials.specs.Trials.{notMarked, notVersioned, headerTrials, takenBefore, pairSeen, isLeafOf, leafBefore, attributesBad, priceIn, mostIn, countIn, trialsOf, section, recordTrials, treeTrials, trials}
 use Rattle.trials.proofs.Computed.{file-verdicts}
-use Rattle.verdicts.specs.Refusals.{withoutCandidate, candidateTrials, stepsTrials, offerBad, offerTrials, choiceRoomTrials, planRoomTrials, keysRoomTrials, cheapestTrials, cheapestPlanTrials, offeredTrials, offeredPlanTrials}
+use Rattle.verdicts.specs.Refusals.{withoutCandidate, candidateTrials, stepsTrials, offerBad, offerTrials, choiceRoomTrials, planRoomTrials, keysRoomTrials, cheapestTrials, cheapestPlanTrials, offeredTrials, offeredPlanTrials, noStep, askedTrials, whyTrials}
 use Rattle.verdicts.specs.Verdicts.{Verdicts}
 
 pub verdicts : Verdicts
-unfolding anyOf be first somewhere verdict rows upwards bit member union meet minus within apart below single unions relationOf grantOf nodeOf stepPrice linkPrice usesLeft usesRight usesX usesY usesSet reads readTogether visibleAfter visibleStep visibles isChild taken isFor grantFor viewOf countsBad relationBad leftOver subjectThere grantBad ownerBad childBad leftBad rightBad unusedBad shapeBad leafBad xBad yBad setBad placeBad stepBad half neededBad mostForStep mostForLink grantsFrom nodesFrom stepPricesFrom linkPricesFrom fileLength headerOf relationAt grantAt nodeAt pricesAt nightIn notMarked notVersioned headerTrials takenBefore pairSeen isLeafOf leafBefore attributesBad priceIn mostIn countIn trialsOf section recordTrials treeTrials trials ones sum size clearOf sealedOf gathered tie merged leastView tests ties joined result leafTable stepTable tableStep tables tableOf clearOffends sealedOffends tiedOffends may mayTake isCandidate candidateSet weight stepsAt steps withoutCandidate candidateTrials stepsTrials offerBad offerTrials choiceRoomTrials planRoomTrials keysRoomTrials cheapestTrials cheapestPlanTrials offeredTrials offeredPlanTrials
+unfolding anyOf be first somewhere verdict rows upwards bit member union meet minus within apart below single unions relationOf grantOf nodeOf stepPrice linkPrice usesLeft usesRight usesX usesY usesSet reads readTogether visibleAfter visibleStep visibles isChild taken isFor grantFor viewOf countsBad relationBad leftOver subjectThere grantBad ownerBad childBad leftBad rightBad unusedBad shapeBad leafBad xBad yBad setBad placeBad stepBad half neededBad mostForStep mostForLink grantsFrom nodesFrom stepPricesFrom linkPricesFrom fileLength headerOf relationAt grantAt nodeAt pricesAt nightIn notMarked notVersioned headerTrials takenBefore pairSeen isLeafOf leafBefore attributesBad priceIn mostIn countIn trialsOf section recordTrials treeTrials trials ones sum size clearOf sealedOf gathered tie merged leastView tests ties joined result leafTable stepTable tableStep tables tableOf clearOffends sealedOffends tiedOffends may mayTake isCandidate candidateSet weight stepsAt steps withoutCandidate candidateTrials stepsTrials offerBad offerTrials choiceRoomTrials planRoomTrials keysRoomTrials cheapestTrials cheapestPlanTrials offeredTrials offeredPlanTrials noStep askedTrials whyTrials
 verdicts =
     record {
       file = file-verdicts;
@@ -57,4 +57,11 @@ verdicts =
       offered-plan-short = refl;
       offered-keys-short = refl;
       offered-plan-before-keys = refl;
+      file-before-asked = refl;
+      asked = refl;
+      asked-without-candidate = refl;
+      asked-leaf = refl;
+      asked-past = refl;
+      asked-far = refl;
+      asked-subject = refl;
     }

@@ -16,7 +16,7 @@ use Rattle.rules.specs.Rules.{countsBad}
 use Rattle.trials.specs.declared.Section.{Section}
 use Rattle.trials.specs.declared.Section.the-variants.{Relations, Grants, Owners, Nodes, Parents, Prices}
 use Rattle.trials.specs.Trials.{headerTrials, countIn, trialsOf, section, leftTrials, recordTrials, treeTrials, trials}
-use Rattle.verdicts.specs.Refusals.{candidateTrials, stepsTrials, offerTrials, choiceRoomTrials, planRoomTrials, keysRoomTrials, Rooms, cheapestTrials, cheapestPlanTrials, offeredTrials, offeredPlanTrials}
+use Rattle.verdicts.specs.Refusals.{candidateTrials, stepsTrials, offerTrials, choiceRoomTrials, planRoomTrials, keysRoomTrials, Rooms, cheapestTrials, cheapestPlanTrials, offeredTrials, offeredPlanTrials, askedTrials, whyTrials}
 use Rattle.verdicts.specs.Fit.{Fits, RefusalsFit}
 
 -- counts that bound the places
@@ -127,7 +127,7 @@ after-trials s more n p h e =
     after-header s (body ++ more) n p (λ counts. all-append Fits body more (body-fits (nightOf s) counts) (h counts)) (rw append-assoc at e)
 
 pub refusals-fit : RefusalsFit
-unfolding trials cheapestPlanTrials cheapestTrials offeredPlanTrials offeredTrials nightIn
+unfolding trials cheapestPlanTrials cheapestTrials offeredPlanTrials offeredTrials askedTrials whyTrials nightIn
 refusals-fit =
     record {
       file = λ s n p e. after-header s (recordTrials (nightOf s) ++ treeTrials (nightOf s)) n p (body-fits (nightOf s)) e;
@@ -139,4 +139,5 @@ refusals-fit =
           after-trials s (offerTrials (nightOf s) offer ++ (planRoomTrials (nightOf s) (rooms .plan) ++ keysRoomTrials (nightOf s) (rooms .keys))) n p
           (λ counts. all-append Fits (offerTrials (nightOf s) offer) _ (offer-fits (nightOf s) counts offer) (plan-rooms-fit (nightOf s) counts (rooms .plan) (rooms .keys)))
           (rw append-assoc at e);
+      why = λ s i p n q small e. after-trials s (askedTrials (nightOf s) i p) n q (λ counts. ((omega arith, omega arith, small), tt)) e;
     }

@@ -1,4 +1,4 @@
--- Refusals 12 to 15, the row of trials of each entry, and the table of verdicts.
+-- Refusals 12 to 16, the row of trials of each entry, and the table of verdicts.
 pub mod Refusals
 pub mod Verdicts
 pub mod Fit

@@ -1,13 +1,14 @@
--- Document 01's refusals 12 to 15 as trials, and the row of each entry: the trials of the file, then its own.
+-- Document 01's refusals 12 to 15 and ticket 2026-01's 16 as trials, and the row of each entry: the trials of the file, then its own.
 use Prim.Native.Nat.{ℕ, _*_}
-use mathlib.Core.Bool.{Bool, false, not}
+use mathlib.Core.Bool.{Bool, true, false, not}
 use mathlib.Core.List.{List, [], _∷_, _++_}
 use lib.Dec.{eqb, ltb}
 use lib.ListN.{length, getD}
-use Rattle.laws.specs.Choose.{if_then_else_}
+use Rattle.laws.specs.Choose.{if_then_else_, anyOf}
 use Rattle.laws.specs.Trials.{Trial, trial, rows}
 use Rattle.sets.specs.Sets.{member}
 use Rattle.night.specs.Night.{Night, nodeOf}
+use Rattle.night.specs.Kinds.{aLeaf}
 use Rattle.layout.specs.Layout.{nightOf}
 use Rattle.model.specs.Candidates.{candidateSet}
 use Rattle.model.specs.Choice.{ownerOf, steps}
@@ -44,6 +45,13 @@ planRoomTrials N room = trial (ltb (length room) (2 * N .header .nodes)) 15 2 �
 unfoldable pub keysRoomTrials : Night → List ℕ → List Trial
 keysRoomTrials N room = trial (ltb (length room) (2 * N .header .attributes)) 15 3 ∷ []
 
+-- 16: a node that is no step, or a subject that isn't there; the node asked for
+unfoldable pub noStep : Night → ℕ → Bool
+noStep N i = if ltb i (N .header .nodes) then eqb (nodeOf N i .kind) aLeaf else true
+
+unfoldable pub askedTrials : Night → ℕ → ℕ → List Trial
+askedTrials N i p = trial (anyOf (noStep N i ∷ not (ltb p (N .header .subjects)) ∷ [])) 16 i ∷ []
+
 -- the rooms lent for the choice, the plan and the keys
 pub record Rooms : Type 0 where
   pub choice : List ℕ
@@ -66,3 +74,7 @@ offeredTrials s offer = trials s ++ offerTrials (nightOf s) offer
 -- with its plan, filling plan and keys: 15 after these; the room for the choice is not asked
 unfoldable pub offeredPlanTrials : List ℕ → List ℕ → Rooms → List Trial
 offeredPlanTrials s offer rooms = offeredTrials s offer ++ (planRoomTrials (nightOf s) (rooms .plan) ++ keysRoomTrials (nightOf s) (rooms .keys))
+
+-- why a subject is out of a step: 1 to 11, 16
+unfoldable pub whyTrials : List ℕ → ℕ → ℕ → List Trial
+whyTrials s i p = trials s ++ askedTrials (nightOf s) i p

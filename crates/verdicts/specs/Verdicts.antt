@@ -1,4 +1,4 @@
--- The table of verdicts: each number of document 01 with its place, and, where two conditions hold, the earlier one.
+-- The table of verdicts: each number of document 01 and of ticket 2026-01 with its place, and, where two conditions hold, the earlier one.
 use Prim.Native.Nat.{ℕ}
 use mathlib.Core.Path.{_≡_}
 use mathlib.Core.List.{List, [], _∷_, _++_}
@@ -6,7 +6,7 @@ use lib.ListN.{set, replicate}
 use Rattle.laws.specs.Trials.{Says, answers, refuses, verdict}
 use Rattle.trials.specs.Small.{aRelation, aGrant, aNode}
 use Rattle.trials.specs.Verdicts.{FileVerdicts}
-use Rattle.verdicts.specs.Refusals.{Rooms, cheapestPlanTrials, offeredPlanTrials}
+use Rattle.verdicts.specs.Refusals.{Rooms, cheapestPlanTrials, offeredPlanTrials, whyTrials}
 
 -- what is said of the cheapest plan of a file, and of the plan for an offered choice
 abbrev pub cheapest : List ℕ → Rooms → Says (Unit {0})
@@ -14,6 +14,10 @@ cheapest s rooms = verdict (cheapestPlanTrials s rooms) tt
 
 abbrev pub offered : List ℕ → List ℕ → Rooms → Says (Unit {0})
 offered s offer rooms = verdict (offeredPlanTrials s offer rooms) tt
+
+-- what is said of the question why a subject is out of a step
+abbrev pub why : List ℕ → ℕ → ℕ → Says (Unit {0})
+why s i p = verdict (whyTrials s i p) tt
 
 -- rooms of these lengths
 abbrev pub room : ℕ → ℕ → ℕ → Rooms
@@ -82,3 +86,12 @@ pub record Verdicts : Type 0 where
   pub offered-plan-short : offered leafAlone (0 ∷ []) (room 1 1 2) ≡ refuses 15 2
   pub offered-keys-short : offered leafAlone (0 ∷ []) (room 1 2 1) ≡ refuses 15 3
   pub offered-plan-before-keys : offered leafAlone (0 ∷ []) (room 1 1 1) ≡ refuses 15 2
+  -- why a subject is out: 1 to 11, 16; neither 12 nor 13 is asked
+  pub file-before-asked : why (set (selected 0) 129 1) 0 2 ≡ refuses 11 7
+  pub asked : why (selected 0) 1 1 ≡ answers tt
+  pub asked-without-candidate : why (unseen 0) 3 0 ≡ answers tt
+  -- 16: a node that is no step, or a subject that isn't there; the node asked for, also where its last byte alone would be a step
+  pub asked-leaf : why (selected 1) 0 0 ≡ refuses 16 0
+  pub asked-past : why (selected 1) 2 0 ≡ refuses 16 2
+  pub asked-far : why (selected 1) 257 0 ≡ refuses 16 257
+  pub asked-subject : why (unseen 0) 3 2 ≡ refuses 16 3

@@ -5,7 +5,7 @@ use mathlib.Core.Bool.{true, false}
 use native.Mathlib.Omega.{arith}
 use borrow.Author.Needs.{needs}
 use Rattle.laws.specs.First.{first}
-use Rattle.laws.proofs.First.{first-none, first-more, somewhere-found, somewhere-none}
+use Rattle.laws.proofs.First.{first-none, first-more, first-found, first-all}
 use Rattle.model.specs.Candidates.{tiedOffends}
 use Rattle.tables.proofs.may.tied_offends.Statement.{statement}
 use Rattle.tables.proofs.may.tied_offends.Tie as tie
@@ -34,7 +34,7 @@ returns c =
     let a = c .before .before .before .before .before .args in
     let b = c .before .before .before .before .loop in
     let h : tiedOffends (a .t1) (a .clear) (a .sealed) (b .k) ≡ true = sym (c .before .set-offends .ensures) ∙ c .if1 .taken in
-    sym (somewhere-found _ (b .k) 64 (b .inv .1) h (omega arith))
+    sym (first-found _ (b .k) 64 (b .inv .1) h (omega arith))
 
 add-k : tie.Need-add-k Inv-loop μ-loop
 add-k c = omega arith
@@ -51,7 +51,7 @@ loop-again c =
     (omega arith, first-more _ (b .k) (b .inv .1) h)
 
 returns-2 : tie.Need-returns-2 Inv-loop μ-loop
-returns-2 c = sym (somewhere-none _ (c .before .loop .k) 64 (c .before .loop .inv .1) (omega arith))
+returns-2 c = sym (first-all _ (c .before .loop .k) 64 (c .before .loop .inv .1) (omega arith))
 
 pub tied-offends-spec : {M : Type 1} → statement M
 tied-offends-spec =

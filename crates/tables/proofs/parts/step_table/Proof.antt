@@ -1,37 +1,22 @@
--- The parts are the definition's.
+-- The least views are the definition's, and so is the table over them.
 use borrow.Author.Needs.{needs}
-use Rattle.tables.proofs.Made.{step-made}
+use Rattle.model.specs.Tables.{stepTable}
 use Rattle.tables.proofs.parts.step_table.Statement.{statement}
 use Rattle.tables.proofs.parts.step_table.Tie as tie
 
-shown-requires : tie.Need-shown-requires
-shown-requires c κs = search needs
+least-view-requires : tie.Need-least-view-requires
+least-view-requires c κs = search needs
 
-shown-requires-2 : tie.Need-shown-requires-2
-shown-requires-2 c κs = search needs
+least-view-requires-2 : tie.Need-least-view-requires-2
+least-view-requires-2 c κs = search needs
 
-visible-after-requires : tie.Need-visible-after-requires
-visible-after-requires c κs = search needs
-
-taken-requires : tie.Need-taken-requires
-taken-requires c κs = search needs
-
-result-requires : tie.Need-result-requires
-result-requires c κs = search needs
+table-over-requires : tie.Need-table-over-requires
+table-over-requires c κs = search needs
 
 returns : tie.Need-returns
-returns c =
-    let b = c .before .before in
-    let a = b .before .before .before .args in
-    step-made (a .v) (a .l) (a .r) (b .before .before .shown .ensures) (b .before .shown2 .ensures) (b .visible-after .ensures) (c .before .taken .ensures) (c .result .ensures)
+unfolding stepTable
+returns c = rw (← c .before .before .least-view .ensures, ← c .before .least-view2 .ensures) (c .table-over .ensures)
 
 pub step-table-spec : {M : Type 1} → statement M
 step-table-spec =
-    tie.close
-    (tie.spec
-    shown-requires
-    shown-requires-2
-    visible-after-requires
-    taken-requires
-    result-requires
-    returns)
+    tie.close (tie.spec least-view-requires least-view-requires-2 table-over-requires returns)

@@ -7,32 +7,14 @@ use Rattle.tables.proofs.parts.taken.Tie as tie
 uses-right-requires : tie.Need-uses-right-requires
 uses-right-requires c κs = search needs
 
-least-view-requires : tie.Need-least-view-requires
-least-view-requires c κs = search needs
-
-least-view-requires-2 : tie.Need-least-view-requires-2
-least-view-requires-2 c κs = search needs
-
 join-requires : tie.Need-join-requires
 join-requires c κs = search needs
 
 returns : tie.Need-returns
-returns c = rw (← c .before .before .before .before .uses-right .ensures, ← c .before .before .least-view .ensures, ← c .before .least-view2 .ensures, ← c .join .ensures) (search cases depth 20)
-
-least-view-requires-3 : tie.Need-least-view-requires-3
-least-view-requires-3 c κs = search needs
+returns c = rw (← c .before .before .uses-right .ensures, ← c .join .ensures) (search cases depth 20)
 
 returns-2 : tie.Need-returns-2
-returns-2 c = rw (← c .before .before .uses-right .ensures, ← c .least-view3 .ensures) (search cases depth 20)
+returns-2 c = rw (← c .before .uses-right .ensures) (search cases depth 20)
 
 pub taken-spec : {M : Type 1} → statement M
-taken-spec =
-    tie.close
-    (tie.spec
-    uses-right-requires
-    least-view-requires
-    least-view-requires-2
-    join-requires
-    returns
-    least-view-requires-3
-    returns-2)
+taken-spec = tie.close (tie.spec uses-right-requires join-requires returns returns-2)

@@ -1,0 +1,63 @@
+//! Programs that are started anew for each of some cases: which of them, and
+//! the inputs that all are started on.
+
+use crate::coverage::{Line, line};
+use crate::file::LONGEST;
+use crate::rng::Rng;
+use crate::served::serve;
+use crate::valid::{self, Size};
+
+/// A file of so many nodes is of a sort of its own.
+pub const MANY_NODES: usize = 40;
+
+/// Starts of a program, so many wanted of each sort: a start takes longer than
+/// all calls on most files.
+pub struct Starts {
+    wanted: Vec<(String, usize)>,
+    taken: Vec<usize>,
+}
+
+impl Starts {
+    pub fn of(wanted: Vec<(String, usize)>) -> Starts {
+        let taken = vec![0; wanted.len()];
+        Starts { wanted, taken }
+    }
+
+    /// Whether a case of this sort is one of those wanted, which are spread
+    /// over the run.
+    pub fn takes(&mut self, sort: usize, index: usize, cases: usize) -> bool {
+        let takes = self.taken[sort] * cases < self.wanted[sort].1 * (index + 1);
+        self.taken[sort] += usize::from(takes);
+        takes
+    }
+
+    /// All are wanted, so each floor is what was wanted.
+    pub fn lines(&self) -> Vec<Line> {
+        let sorts = self.wanted.iter().zip(&self.taken);
+        sorts.map(|((what, wanted), &taken)| line(what, taken, *wanted)).collect()
+    }
+}
+
+pub fn same(expected: &str, printed: &str) -> Result<(), String> {
+    if printed == expected {
+        return Ok(());
+    }
+    Err(format!("expected\n{expected}\nprinted\n{printed}"))
+}
+
+/// Compares on the longest file that is read, on longer ones, and on none.
+pub fn compare_lengths(
+    seed: u64,
+    compare: impl Fn(&[u8]) -> Result<(), String>,
+) -> Result<(), String> {
+    let mut rng = Rng::new(seed, u64::MAX);
+    let mut file = valid::file(&mut rng, Size::Longest, false);
+    serve(&mut rng, &mut file);
+    let longest = file.write();
+    for length in [LONGEST, LONGEST + 1, LONGEST + 2, 3 * LONGEST, 0] {
+        let mut bytes = longest.clone();
+        bytes.resize(length, 0);
+        compare(&bytes).map_err(|text| format!("the longest file at {length} bytes\n{text}"))?;
+    }
+    Ok(())
+}

@@ -1,0 +1,148 @@
+//! The program `why`: started once for each of some questions, the file on its
+//! standard input, node and subject as words; all that it prints is compared.
+
+use crate::generate::Case;
+use crate::planner::{Study, study};
+use crate::program::{Said, ask, printed};
+use crate::reading::Refusal;
+use crate::starts::{self, MANY_NODES, Starts, same};
+use crate::text;
+use crate::why::{Question, Reason, Table, Verdict, verdicts};
+
+/// The sorts of answers on files that are not refused.
+pub const SORTS: [&str; 11] = [
+    "candidate",
+    "left 1",
+    "left 2",
+    "left 3",
+    "right 1",
+    "right 2",
+    "right 3",
+    "result 3",
+    "refusal 16 for a leaf",
+    "refusal 16 for a node not there",
+    "refusal 16 for a subject not there",
+];
+/// So many starts of each of these sorts, of each refusal 1 to 11, and so many
+/// answered ones on files of many nodes.
+const WANTED: [usize; SORTS.len()] = [40, 24, 24, 24, 24, 24, 24, 40, 12, 12, 12];
+const OF_REFUSAL: usize = 8;
+const OF_MANY: usize = 20;
+const MANY: usize = SORTS.len() + 11;
+
+/// Words that are no question.
+const BAD: [&[&[u8]]; 4] = [&[], &[b"0"], &[b"0", b"0", b"0"], &[b"", b""]];
+/// Words that are no number, as the node or as the subject.
+const NO_NUMBER: [&[u8]; 16] = [
+    b"",
+    b"-1",
+    b"-0",
+    b"+1",
+    b" 1",
+    b"1 ",
+    b"1x",
+    b"x",
+    b"0x1",
+    b"1.0",
+    b"4294967296",
+    b"4294967297",
+    b"18446744073709551617",
+    b"99999999999999999999",
+    "\u{ff11}".as_bytes(),
+    b"1\xff",
+];
+
+pub fn starts() -> Starts {
+    let what = |sort: &str| format!("starts of why, {sort}");
+    let answers = SORTS.iter().zip(WANTED).map(|(sort, wanted)| (what(sort), wanted));
+    let refused = (1..=11).map(|number| (what(&format!("refusal {number}")), OF_REFUSAL));
+    let many = (what(&format!("answered for {MANY_NODES} nodes or more")), OF_MANY);
+    Starts::of(answers.chain(refused).chain([many]).collect())
+}
+
+/// Where an answer on a file stands among the sorts.
+pub fn sort(study: &Study, asked: Question, verdict: &Verdict) -> usize {
+    match verdict {
+        Ok(None) => 0,
+        Ok(Some(Reason { table: Table::Left, condition, .. })) => *condition,
+        Ok(Some(Reason { table: Table::Right, condition, .. })) => 3 + condition,
+        Ok(Some(Reason { table: Table::Result, .. })) => 7,
+        Err(_) => match study.file.nodes.get(asked.node as usize) {
+            Some(node) if node.work.is_leaf() => 8,
+            None => 9,
+            Some(_) => 10,
+        },
+    }
+}
+
+/// The sort for which a start is counted: refusals 1 to 11 come behind those of
+/// answers, and last the files of many nodes.
+pub fn start_sort(study: &Result<Study, Refusal>, asked: Question, verdict: &Verdict) -> usize {
+    match study {
+        Err(refusal) => SORTS.len() - 1 + refusal.number as usize,
+        Ok(study) if study.file.nodes.len() >= MANY_NODES && verdict.is_ok() => MANY,
+        Ok(study) => sort(study, asked, verdict),
+    }
+}
+
+/// Compares what is printed for two words with the answer to their numbers.
+fn compare_words(
+    command: &str,
+    words: [&str; 2],
+    file: &[u8],
+    verdict: &Verdict,
+) -> Result<(), String> {
+    let given = printed(command, &words.map(str::as_bytes), file)?;
+    same(&text::why(verdict), &given).map_err(|text| format!("why {words:?}\n{text}"))
+}
+
+pub fn compare(
+    command: &str,
+    file: &[u8],
+    asked: Question,
+    verdict: &Verdict,
+) -> Result<(), String> {
+    let words = [asked.node, asked.subject].map(|number| number.to_string());
+    compare_words(command, [&words[0], &words[1]], file, verdict)
+}
+
+pub fn compare_lengths(command: &str, seed: u64) -> Result<(), String> {
+    let asked = Question { node: 63, subject: 15 };
+    starts::compare_lengths(seed, |bytes| {
+        compare(command, bytes, asked, &verdicts(&study(bytes), &[asked])[0])
+    })
+}
+
+/// Words that bring no answer but one line over standard error.
+fn compare_bad(command: &str, words: &[&[u8]], file: &[u8]) -> Result<(), String> {
+    let Said { printed, error } = ask(command, words, file)?;
+    let one_line = error.lines().count() == 1 && error.ends_with('\n');
+    if printed.is_empty() && one_line && error.starts_with("use: ") {
+        return Ok(());
+    }
+    let words: Vec<String> = words.iter().map(|word| word.escape_ascii().to_string()).collect();
+    Err(format!("why {words:?}\nprinted\n{printed}\nover standard error\n{error}"))
+}
+
+/// The same question in other words, the highest number there is, and bad words
+/// with a file and with none, for a case whose root is a step.
+pub fn compare_odd(command: &str, case: &Case) -> Result<(), String> {
+    let file = &case.file;
+    let study = study(file);
+    let root = study.as_ref().map_or(0, |study| study.file.root());
+    let asked = |node: u32, subject: u32| verdicts(&study, &[Question { node, subject }]).remove(0);
+    let (plain, highest) = (root.to_string(), u32::MAX.to_string());
+    let right = asked(root as u32, 0);
+    compare_words(command, [&format!("0{root}"), "00"], file, &right)?;
+    compare_words(command, [&format!("{root:012}"), &format!("{:012}", 0)], file, &right)?;
+    compare_words(command, [&highest, "0"], file, &asked(u32::MAX, 0))?;
+    compare_words(command, [&plain, &highest], file, &asked(root as u32, u32::MAX))?;
+    for words in BAD {
+        compare_bad(command, words, file)?;
+    }
+    for word in NO_NUMBER {
+        compare_bad(command, &[word, b"0"], file)?;
+        compare_bad(command, &[plain.as_bytes(), word], &[])?;
+    }
+    Ok(())
+}

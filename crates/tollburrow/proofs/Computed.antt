@@ -1,0 +1,6 @@
+-- Which number is which, by computation.
+use mathlib.Core.Path.{refl}
+use Rattle.tollburrow.specs.Codes.{StandingNumbers}
+
+pub standing-numbers : StandingNumbers
+standing-numbers = record { table = refl; condition = refl; set = refl; candidate = (refl, refl, refl) }
