@@ -146,6 +146,11 @@ def value(names, fields):
     return "record { " + "; ".join("%s = %d" % pair for pair in zip(names.split(), fields)) + " }"
 
 
+def rows(items):
+    """A list of the specs, one item to a line."""
+    return "\n          " + "\n          ∷ ".join([*items, "[]"])
+
+
 def decoded():
     """The sample night's values as a record of the specs."""
     s = len(SUBJECTS)
@@ -157,12 +162,12 @@ def decoded():
     links = [[0 if to == sender else LINK_PRICE for to in range(s)] for sender in range(s)]
     lists = [[" ∷ ".join("%d" % price for price in row) + " ∷ []" for row in table] for table in (steps, links)]
     counts = (1, s, len(RELATIONS), len(ATTRIBUTES), len(NODES), len(granted), STEPS_ALLOWED)
-    parts = [("header", value("version subjects relations attributes nodes grants steps", counts))]
+    parts = [("header", " " + value("version subjects relations attributes nodes grants steps", counts))]
     for name, items in [("relations", relations), ("grants", granted), ("nodes", nodes)]:
-        parts.append((name, " ∷ ".join(items) + " ∷ []"))
+        parts.append((name, rows(items)))
     for name, items in [("stepPrices", lists[0]), ("linkPrices", lists[1])]:
-        parts.append((name, " ∷ ".join("(%s)" % item for item in items) + " ∷ []"))
-    return "record {\n" + "".join("      %s = %s;\n" % part for part in parts) + "    }"
+        parts.append((name, rows("(%s)" % item for item in items)))
+    return "record {\n" + "".join("      %s =%s;\n" % part for part in parts) + "    }"
 
 
 def main():

@@ -37,7 +37,7 @@ pub chain-map : {T S : ℕ → Type 0} {i j : ℕ} → ((m : ℕ) → T m → S 
 chain-map f c = chain-through (λ m t x y hx hy. one (f m t) hx hy) c
 
 -- members of a word of 64 bits are below 64
-in-word : (m i : ℕ) → m < 2 ^ 64 → In i m → i < 64
+pub in-word : (m i : ℕ) → m < 2 ^ 64 → In i m → i < 64
 in-word m i h e = lt-of-not-le (λ g. omega (arith, bit-beyond 64 m i h g))
 
 -- a chain starts at an attribute below 64, where only such were tied

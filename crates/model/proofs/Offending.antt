@@ -3,60 +3,44 @@ use Prim.Native.Nat.{ℕ, zero, suc, _^_, _<_, _≤_}
 use mathlib.Core.Path.{_≡_, refl, sym, ap, _∙_}
 use mathlib.Core.Bool.{Bool, true, false}
 use mathlib.Core.Logic.{_⊎_, inl, inr, ⊎-elim, _↔_}
+use native.Mathlib.Nat.{lt-of-not-le, pos-of-ne-zero}
 use native.Mathlib.Omega.{arith}
-use lib.Dec.{eqb, ltb}
+use lib.Dec.{eqb}
 use lib.ListN.{getD}
-use borrow.Author.Tests.{eqb-true, eqb-false, ltb-true, ltb-false}
+use borrow.Author.Tests.{eqb-true, eqb-false}
 use Rattle.laws.specs.Choose.{if_then_else_}
 use Rattle.laws.specs.First.{first}
 use Rattle.laws.proofs.First.{first-below, first-holds}
 use Rattle.sets.specs.Sets.{In, Within, union, within, lowest}
-use Rattle.sets.proofs.Members.{bit-beyond, same-members, in-union, in-minus, in-meet, within-exactly, in-none}
-use Rattle.sets.proofs.Words.{in-single, lowest-in, lowest-low, members-lt, not-within}
+use Rattle.sets.proofs.Members.{same-members, in-union, in-minus, in-meet, within-exactly, in-none}
+use Rattle.sets.proofs.Words.{in-single, lowest-in, lowest-low, members-lt, some-member}
 use Rattle.night.specs.Night.{Night, nodeOf}
 use Rattle.night.specs.Kinds.{attribute, visible}
 use Rattle.night.specs.Promised.{Promised}
-use Rattle.night.proofs.Visible.{OfOperand, step-uses-left, visible-below, reads-operand}
-use Rattle.run.specs.Linked.{Chain}
+use Rattle.night.proofs.Visible.{OfOperand, at-operand, step-uses-left, visible-below, reads-operand}
 use Rattle.model.specs.declared.Table.{Table}
 use Rattle.model.specs.declared.Standing.the-variants.{Out}
 use Rattle.model.specs.Ties.{Classes}
 use Rattle.model.specs.Tables.{shown, leastView, tests, tableOf, TiedAt}
 use Rattle.model.specs.Candidates.{clearOffends, sealedOffends, tiedOffends, ClearHolds, SealedHolds, TiedHolds}
 use Rattle.model.specs.Reasons.{lookedAt, offending, Holds, Looked, LowestAlone, Split, FirstTied, Named, OutExactly}
-use Rattle.model.proofs.Chains.{chain-join, chain-back}
-use Rattle.model.proofs.Lowest.{clash}
+use Rattle.model.proofs.Chains.{chain-join, chain-back, in-word}
+use Rattle.model.proofs.Lowest.{clash, not-below}
 use Rattle.model.proofs.Meaning.{tied-meaning}
 use Rattle.model.proofs.Reasons.{stands-out, first-named}
 use Rattle.model.proofs.Sees.{clear-lies, sealed-lies, tied-whole, tied-lies}
 use Rattle.model.proofs.Shown.{shown-visible, tests-read, leaf-tested, leaf-hidden, step-tested, step-hidden}
 
--- a member of a set of 64 bits is below 64
-in-word : (S k : ℕ) → S < 2 ^ 64 → In k S → k < 64
-in-word S k small h = go (ltb k 64) refl
-  where
-    go : (b : Bool) → ltb k 64 ≡ b → k < 64
-    go true e = ltb-true k 64 e
-    go false e = absurd (omega (arith, h, bit-beyond 64 S k small (ltb-false k 64 e)))
-
 -- the lowest member, alone
 lowest-alone : (S : ℕ) → S < 2 ^ 64 → (S ≡ 0 → ⊥) → LowestAlone (λ j. In j S) (attribute (lowest 64 S))
 lowest-alone S small some =
-    let here : In (lowest 64 S) S = lowest-in 64 S small (pos S some) in
+    let here : In (lowest 64 S) S = lowest-in 64 S small (pos-of-ne-zero some) in
     record {
       lowest = lowest 64 S;
       offends = here;
-      none-lower = λ j h. not-lower j h (ltb j (lowest 64 S)) refl;
+      none-lower = λ j h. not-below (λ l. lowest-low 64 S j l h);
       alone = λ j. (λ h. in-single 64 j (lowest 64 S) .0 h .0, λ e. in-single 64 j (lowest 64 S) .1 (e, in-word S (lowest 64 S) small here));
     }
-  where
-    pos : (n : ℕ) → (n ≡ 0 → ⊥) → 0 < n
-    pos zero h = absurd (h refl)
-    pos (suc n) h = omega arith
-
-    not-lower : (j : ℕ) → In j S → (b : Bool) → ltb j (lowest 64 S) ≡ b → lowest 64 S ≤ j
-    not-lower j h true e = absurd (lowest-low 64 S j (ltb-true j (lowest 64 S) e) h)
-    not-lower j h false e = ltb-false j (lowest 64 S) e
 
 -- said by another test of the same members
 same-alone : {A B : ℕ → Type 0} {set : ℕ} → ((j : ℕ) → A j ↔ B j) → LowestAlone A set → LowestAlone B set
@@ -87,51 +71,40 @@ module _ (t : Table) (P E : ℕ) where
         its-first = its-first;
         whole = refl;
         fails = split;
-        none-lower = λ j m s h. not-lower j m s h (ltb m k) refl;
+        none-lower = λ j m s h. not-below (λ l. split-offends m (split-alike j m h s) (first-below (tiedOffends t P E) 64 m l));
       }
     where
       k : ℕ
       k = first (tiedOffends t P E) 64
 
       low : k < 64
-      low = go (ltb k 64) refl
-        where
-          go : (b : Bool) → ltb k 64 ≡ b → k < 64
-          go true e = ltb-true k 64 e
-          go false e = absurd (fails (λ j l. first-below (tiedOffends t P E) 64 j (omega (arith, ltb-false k 64 e))))
+      low = lt-of-not-le (λ past. fails (λ j l. first-below (tiedOffends t P E) 64 j (omega (arith, past))))
 
       split : Split (getD (t .tied) k 0) P E
       split = offends-split k (first-holds (tiedOffends t P E) 64 low)
 
-      outside : (b : Bool) → within (getD (t .tied) k 0) P ≡ b → (m : ℕ) × In m (getD (t .tied) k 0)
-      outside true e = absurd (split .0 (within-exactly _ P .0 e))
-      outside false e = let w = not-within _ P e in (w .0, w .1)
-
-      -- it has some attribute, and so its own
+      -- it has some attribute, or it would lie in P, and so its own
       its-first : In k (getD (t .tied) k 0)
       its-first =
-          let w = outside (within (getD (t .tied) k 0) P) refl in
+          let w = some-member (getD (t .tied) k 0) (λ e. split .0 (λ j h. absurd (in-none j (rw e at h)))) in
           let some = c .linked k (w .0) (w .1) in
           c .held k k (chain-join some (chain-back some))
 
-      not-lower : (j m : ℕ) → Split (getD (t .tied) j 0) P E → In m (getD (t .tied) j 0) → (b : Bool) → ltb m k ≡ b → k ≤ m
-      not-lower j m s h true e = absurd (split-offends m (same P (s .0), same E (s .1)) (first-below (tiedOffends t P E) 64 m (ltb-true m k e)))
+      -- the tied sets of two attributes that are tied fail alike
+      split-alike : (j m : ℕ) → In m (getD (t .tied) j 0) → Split (getD (t .tied) j 0) P E → Split (getD (t .tied) m 0) P E
+      split-alike j m h s = (same P (s .0), same E (s .1))
         where
-          back : Chain T m j
-          back = chain-back (c .linked j m h)
-
           same : (S : ℕ) → (Within (getD (t .tied) j 0) S → ⊥) → Within (getD (t .tied) m 0) S → ⊥
-          same S out w = out (λ x g. w x (c .held m x (chain-join back (c .linked j x g))))
-      not-lower j m s h false e = ltb-false m k e
+          same S out w = out (λ x g. w x (c .held m x (chain-join (chain-back (c .linked j m h)) (c .linked j x g))))
 
 -- every attribute of a node's table is below 64
 module _ (N : Night) (sound : Promised N) where
   abbrev n : ℕ
   n = N .header .nodes
 
-  -- of a step's operand, where it holds of every lower node
-  of-lower : (i : ℕ) → i < n → (nodeOf N i .kind ≡ 0 → ⊥) → {Q : ℕ → Type 0} {A : Type 0} → ((c : ℕ) → c < i → Q c → A) → OfOperand N i Q → A
-  of-lower i l s f = ⊎-elim (f _ (sound .node i l .left-lower (step-uses-left (nodeOf N i .kind) s))) (λ h. f _ (sound .node i l .right-lower (h .0)) (h .1))
+  -- of a step's operand, where it follows at every lower node
+  of-lower : (i : ℕ) (l : i < n) (s : nodeOf N i .kind ≡ 0 → ⊥) {Q : ℕ → Type 0} {A : Type 0} → ((c : ℕ) → c < i → Q c → A) → OfOperand N i Q → A
+  of-lower i l s f = at-operand N sound i l s {H = λ c. Unit {0}} tt (λ u. tt) (λ c b _. f c b)
 
   shown-below : (i a : ℕ) → i < n → In a (visible N i) → a < 64
   shown-below i a l h = omega (arith, visible-below N sound i a l h, sound .counts .attributes-most)
@@ -215,6 +188,21 @@ named-once (suc (suc zero)) fails w u = alone-once (w .1 refl) (u .1 refl)
 named-once (suc (suc (suc zero))) fails w u = tied-once (w .2 refl) (u .2 refl)
 named-once (suc (suc (suc (suc c)))) fails w u = absurd (fails (λ e. absurd (omega arith), λ e. absurd (omega arith), λ e. absurd (omega arith)))
 
+-- a least view is as fair as its table
+view-fair : (T : ℕ → Type 0) (needed : ℕ) (t : Table) → Fair T t → Fair T (leastView needed t)
+unfolding leastView
+view-fair T needed t fair =
+    record {
+      clear = λ a h. below a (in-meet needed (shown t) a .0 h .1);
+      sealed = λ a h. below a (in-minus (shown t) needed a .0 h .0);
+      tested = fair .tested;
+      hidden = fair .hidden;
+      classes = fair .classes;
+    }
+  where
+    below : (a : ℕ) → In a (shown t) → a < 64
+    below a h = ⊎-elim (fair .clear a) (fair .sealed a) (in-union (t .clear) (t .sealed) a .0 h)
+
 -- the tables that are looked at are fair
 module _ (N : Night) (sound : Promised N) where
   table-fair : (c : ℕ) → c < N .header .nodes → Fair (TiedAt N c) (tableOf N c)
@@ -228,18 +216,6 @@ module _ (N : Night) (sound : Promised N) where
         classes = tied-meaning N sound c l;
       }
 
-  view-fair : (needed c : ℕ) → c < N .header .nodes → Fair (TiedAt N c) (leastView needed (tableOf N c))
-  unfolding leastView
-  view-fair needed c l =
-      let below : (a : ℕ) → In a (shown (tableOf N c)) → a < 64 = λ a h. shown-below N sound c a l (rw (shown-visible N sound c l) at h) in
-      record {
-        clear = λ a h. below a (in-meet needed (shown (tableOf N c)) a .0 h .1);
-        sealed = λ a h. below a (in-minus (shown (tableOf N c)) needed a .0 h .0);
-        tested = λ a. tested-below N sound c a l;
-        hidden = λ a. hidden-below N sound c a l;
-        classes = tied-meaning N sound c l;
-      }
-
   -- so each reason is named as it should be
   module _ (i : ℕ) (l : i < N .header .nodes) (s : nodeOf N i .kind ≡ 0 → ⊥) (P E : ℕ) where
     left-lower : nodeOf N i .left < i
@@ -247,9 +223,9 @@ module _ (N : Night) (sound : Promised N) where
 
     looked-named : (k c : ℕ) → Looked N i k → (Holds c (lookedAt N i k) P E → ⊥) → Named (lookedAt N i k) P E c (offending (lookedAt N i k) P E c)
     unfolding lookedAt
-    looked-named k c (inl e) fails = rw e (named-by _ _ (view-fair (nodeOf N i .needed) (nodeOf N i .left) (omega (arith, left-lower))) P E c (rw e at fails))
+    looked-named k c (inl e) fails = rw e (named-by _ _ (view-fair _ (nodeOf N i .needed) _ (table-fair (nodeOf N i .left) (omega (arith, left-lower)))) P E c (rw e at fails))
     looked-named k c (inr (inl (e, u))) fails =
-        rw e (named-by _ _ (view-fair (nodeOf N i .needed) (nodeOf N i .right) (omega (arith, sound .node i l .right-lower u))) P E c (rw e at fails))
+        rw e (named-by _ _ (view-fair _ (nodeOf N i .needed) _ (table-fair (nodeOf N i .right) (omega (arith, sound .node i l .right-lower u)))) P E c (rw e at fails))
     looked-named k c (inr (inr e)) fails = rw e (named-by _ _ (table-fair i l) P E c (rw e at fails))
 
 pub out-exactly : OutExactly

@@ -5,9 +5,9 @@ use mathlib.Core.Bool.{Bool, true, false, not}
 use mathlib.Core.List.{List, [], _++_}
 use mathlib.Core.Logic.{inl, inr}
 use native.Mathlib.Omega.{arith}
-use lib.Dec.{eqb, ltb}
+use lib.Dec.{eqb}
 use lib.ListN.{getD}
-use borrow.Author.Tests.{eqb-true, eqb-false, eq-eqb, ne-eqb, ltb-true, ltb-false, lt-ltb, le-ltb}
+use borrow.Author.Tests.{eqb-true, eqb-false, eq-eqb, ne-eqb, lt-ltb, le-ltb}
 use Rattle.laws.specs.Choose.{if_then_else_}
 use Rattle.laws.specs.First.{first, somewhere}
 use Rattle.laws.specs.Trials.{Trial, Says, answers, refuses, verdict}
@@ -20,7 +20,7 @@ use Rattle.model.specs.declared.Standing.{Standing}
 use Rattle.model.specs.declared.Standing.the-variants.{Candidate, Out}
 use Rattle.model.specs.Candidates.{clearOffends, sealedOffends, tiedOffends, May}
 use Rattle.model.specs.Reasons.{ofLeft, ofRight, ofResult, lookedAt, conditions, reasons, offending, named, standingBy, standing, Holds, Looked, FirstOut, CandidateExactly}
-use Rattle.model.proofs.Lowest.{clash}
+use Rattle.model.proofs.Lowest.{clash, not-below}
 use Rattle.model.proofs.Sees.{clear-lies, sealed-lies, tied-lies}
 
 -- all three conditions of a table hold
@@ -130,17 +130,9 @@ module _ (N : Night) (i P E : ℕ) where
   -- one reason is not before another that is the first
   not-before : (k c k′ c′ : ℕ) → FirstOut N i P E k c → FirstOut N i P E k′ c′ → (k′ ≤ k) × (k ≡ k′ → c′ ≤ c)
   not-before k c k′ c′ w w′ = (
-    tables (ltb k k′) refl,
-    λ e. conditions-of e (ltb c c′) refl,
+    not-below (λ l. w .fails (w′ .tables-before k c (w .looked) l)),
+    λ same. not-below (λ l. w .fails (rw same (w′ .conditions-before c l))),
   )
-    where
-      tables : (b : Bool) → ltb k k′ ≡ b → k′ ≤ k
-      tables true e = absurd (w .fails (w′ .tables-before k c (w .looked) (ltb-true k k′ e)))
-      tables false e = ltb-false k k′ e
-
-      conditions-of : k ≡ k′ → (b : Bool) → ltb c c′ ≡ b → c′ ≤ c
-      conditions-of same true e = absurd (w .fails (rw same (w′ .conditions-before c (ltb-true c c′ e))))
-      conditions-of same false e = ltb-false c c′ e
 
   pub first-once : (k c k′ c′ : ℕ) → FirstOut N i P E k c → FirstOut N i P E k′ c′ → (k ≡ k′) × (c ≡ c′)
   first-once k c k′ c′ w w′ =

@@ -4,80 +4,62 @@ use mathlib.Core.Path.{_≡_, refl}
 use mathlib.Core.Bool.{true}
 use mathlib.Core.Logic.{_⊎_, inl, inr, ⊎-elim}
 use native.Mathlib.Omega.{arith}
-use Rattle.sets.specs.Sets.{In, meet, minus}
+use Rattle.sets.specs.Sets.{In}
 use Rattle.sets.proofs.Members.{in-minus, in-meet}
 use Rattle.night.specs.Night.{Night, nodeOf}
 use Rattle.night.specs.Kinds.{usesRight, visible}
 use Rattle.night.specs.Promised.{Promised}
-use Rattle.night.proofs.Visible.{OfOperand, step-uses-left, visible-operand, reads-operand}
+use Rattle.night.proofs.Visible.{OfOperand, at-operand, visible-operand, reads-operand}
 use Rattle.model.specs.declared.Table.{Table}
-use Rattle.model.specs.Tables.{shown, leastView, tableOf}
+use Rattle.model.specs.Tables.{shown, leastView, tests, tableOf}
 use Rattle.model.specs.Reasons.{ofLeft, ofRight, ofResult, lookedAt, ClearLies, SealedLies, Holds, ResultTied}
 use Rattle.model.proofs.Shown.{shown-visible, tests-read, step-clear, step-sealed, step-tested, step-hidden}
 
 module _ (N : Night) (sound : Promised N) (i : ℕ) (l : i < N .header .nodes) (s : nodeOf N i .kind ≡ 0 → ⊥) (P E : ℕ) where
-  left-lower : nodeOf N i .left < i
-  left-lower = sound .node i l .left-lower (step-uses-left (nodeOf N i .kind) s)
-
   -- the least view of operand c
   abbrev view : ℕ → Table
   view c = leastView (nodeOf N i .needed) (tableOf N c)
 
-  -- what holds of the least views of both operands, used at the one
-  at-operand : {H Q : ℕ → Type 0} {A : Type 0} → H (nodeOf N i .left) → (usesRight (nodeOf N i .kind) ≡ true → H (nodeOf N i .right))
-      → ((c : ℕ) → c < i → H c → Q c → A) → OfOperand N i Q → A
-  at-operand left right f (inl q) = f _ left-lower left q
-  at-operand left right f (inr (u, q)) = f _ (sound .node i l .right-lower u) (right u) q
+  -- of a form, clear or sealed: what is visible or implicit in it satisfies S
+  abbrev Lies : (Table → ℕ) → (Table → ℕ) → (ℕ → Type 0) → Table → Type 0
+  Lies column implicit S t = (a : ℕ) → In a (column t) ⊎ In a (implicit t) → S a
 
-  -- what is clear or sealed in the result was so in an operand's least view
-  clear-view : (a c : ℕ) → c < i → ClearLies (view c) P E → In a (nodeOf N i .needed) → In a (visible N c) → In a P
-  unfolding leastView
-  clear-view a c b lies needs seen = lies .0 a (in-meet _ (shown (tableOf N c)) a .1 (needs, rw (shown-visible N sound c (omega arith)) seen))
+  -- what the result has in a form an operand's least view has in it: F says of an attribute that the step gives it this form
+  module _ (column implicit : Table → ℕ) (F S : ℕ → Type 0)
+      (shows : (a c : ℕ) → c < i → F a → In a (visible N c) → In a (column (view c)))
+      (keeps : (a c : ℕ) → In a (implicit (tableOf N c)) → In a (implicit (view c)))
+      (made : (a : ℕ) → In a (column (tableOf N i)) → F a × In a (visible N i))
+      (tested : (a : ℕ) → In a (implicit (tableOf N i)) → OfOperand N i (λ c. In a (implicit (tableOf N c))) ⊎ (In a (tests (nodeOf N i)) × F a)) where
+    result-lies : Lies column implicit S (view (nodeOf N i .left)) → (usesRight (nodeOf N i .kind) ≡ true → Lies column implicit S (view (nodeOf N i .right)))
+        → Lies column implicit S (tableOf N i)
+    result-lies left right a =
+        ⊎-elim (λ h. let w = made a h in was-shown (w .0) (visible-operand N sound i l s a (w .1)))
+        (λ h. ⊎-elim (from (λ c b lies q. lies a (inr (keeps a c q)))) (λ w. was-shown (w .1) (reads-operand N sound i l s a (tests-read (nodeOf N i) a (w .0)))) (tested a h))
+      where
+        from : {Q : ℕ → Type 0} → ((c : ℕ) → c < i → Lies column implicit S (view c) → Q c → S a) → OfOperand N i Q → S a
+        from = at-operand N sound i l s {H = λ c. Lies column implicit S (view c)} left right
 
-  tested-view : (a c : ℕ) → c < i → ClearLies (view c) P E → In a (tableOf N c .tested) → In a P
-  unfolding leastView
-  tested-view a c b lies = lies .1 a
-
-  sealed-view : (a c : ℕ) → c < i → SealedLies (view c) P E → (In a (nodeOf N i .needed) → ⊥) → In a (visible N c) → In a P ⊎ In a E
-  unfolding leastView
-  sealed-view a c b lies spare seen = lies a (inl (in-minus (shown (tableOf N c)) _ a .1 (rw (shown-visible N sound c (omega arith)) seen, spare)))
-
-  hidden-view : (a c : ℕ) → c < i → SealedLies (view c) P E → In a (tableOf N c .hidden) → In a P ⊎ In a E
-  unfolding leastView
-  hidden-view a c b lies h = lies a (inr h)
+        was-shown : F a → OfOperand N i (λ c. In a (visible N c)) → S a
+        was-shown f = from (λ c b lies q. lies a (inl (shows a c b f q)))
 
   result-clear : ClearLies (view (nodeOf N i .left)) P E → (usesRight (nodeOf N i .kind) ≡ true → ClearLies (view (nodeOf N i .right)) P E) → ClearLies (tableOf N i) P E
-  result-clear left right = (λ a h. was-clear a (rw (step-clear N sound i l s) at h), was-tested)
-    where
-      from : {Q : ℕ → Type 0} {A : Type 0} → ((c : ℕ) → c < i → ClearLies (view c) P E → Q c → A) → OfOperand N i Q → A
-      from = at-operand {H = λ c. ClearLies (view c) P E} left right
-
-      was-clear : (a : ℕ) → In a (meet (nodeOf N i .needed) (visible N i)) → In a P
-      was-clear a h =
-          let w = in-meet (nodeOf N i .needed) (visible N i) a .0 h in
-          from (λ c b lies. clear-view a c b lies (w .0)) (visible-operand N sound i l s a (w .1))
-
-      was-tested : (a : ℕ) → In a (tableOf N i .tested) → In a P
-      was-tested a h =
-          ⊎-elim (from (λ c. tested-view a c))
-          (λ w. from (λ c b lies. clear-view a c b lies (w .1)) (reads-operand N sound i l s a (tests-read (nodeOf N i) a (w .0)))) (step-tested N sound i l s a .0 h)
+  unfolding leastView
+  result-clear =
+      result-lies (λ t. t .clear) (λ t. t .tested) (λ a. In a (nodeOf N i .needed)) (λ a. In a P)
+      (λ a c b needs seen. in-meet _ (shown (tableOf N c)) a .1 (needs, rw (shown-visible N sound c (omega arith)) seen))
+      (λ a c h. h)
+      (λ a h. in-meet _ (visible N i) a .0 (rw (step-clear N sound i l s) at h))
+      (λ a. step-tested N sound i l s a .0)
 
   result-sealed : SealedLies (view (nodeOf N i .left)) P E → (usesRight (nodeOf N i .kind) ≡ true → SealedLies (view (nodeOf N i .right)) P E)
       → SealedLies (tableOf N i) P E
-  result-sealed left right a = ⊎-elim (λ h. was-sealed (rw (step-sealed N sound i l s) at h)) was-hidden
-    where
-      from : {Q : ℕ → Type 0} {A : Type 0} → ((c : ℕ) → c < i → SealedLies (view c) P E → Q c → A) → OfOperand N i Q → A
-      from = at-operand {H = λ c. SealedLies (view c) P E} left right
-
-      was-sealed : In a (minus (visible N i) (nodeOf N i .needed)) → In a P ⊎ In a E
-      was-sealed h =
-          let w = in-minus (visible N i) (nodeOf N i .needed) a .0 h in
-          from (λ c b lies. sealed-view a c b lies (w .1)) (visible-operand N sound i l s a (w .0))
-
-      was-hidden : In a (tableOf N i .hidden) → In a P ⊎ In a E
-      was-hidden h =
-          ⊎-elim (from (λ c. hidden-view a c))
-          (λ w. from (λ c b lies. sealed-view a c b lies (w .1)) (reads-operand N sound i l s a (tests-read (nodeOf N i) a (w .0)))) (step-hidden N sound i l s a .0 h)
+  unfolding leastView
+  result-sealed =
+      result-lies (λ t. t .sealed) (λ t. t .hidden) (λ a. In a (nodeOf N i .needed) → ⊥) (λ a. In a P ⊎ In a E)
+      (λ a c b spare seen. in-minus (shown (tableOf N c)) _ a .1 (rw (shown-visible N sound c (omega arith)) seen, spare))
+      (λ a c h. h)
+      (λ a h. let w = in-minus (visible N i) _ a .0 (rw (step-sealed N sound i l s) at h) in (w .1, w .0))
+      (λ a. step-hidden N sound i l s a .0)
 
 -- so of the result only condition 3 can be the first to fail
 pub result-tied : ResultTied

@@ -38,10 +38,8 @@ module _ (t : Table) (P E : ℕ) where
   pub clear-lies : ClearHolds t P E ↔ ClearLies t P E
   unfolding clearOffends
   clear-lies = (
-    λ e.
-        let one = outside (union (t .clear) (t .tested)) P e in
-        (λ a h. one a (in-union (t .clear) (t .tested) a .1 (inl h)), λ a h. one a (in-union (t .clear) (t .tested) a .1 (inr h))),
-    λ w. inside _ P (λ a h. ⊎-elim (w .0 a) (w .1 a) (in-union (t .clear) (t .tested) a .0 h)),
+    λ e a h. outside (union (t .clear) (t .tested)) P e a (in-union (t .clear) (t .tested) a .1 h),
+    λ w. inside _ P (λ a h. w a (in-union (t .clear) (t .tested) a .0 h)),
   )
 
   pub sealed-lies : SealedHolds t P E ↔ SealedLies t P E
@@ -94,8 +92,8 @@ module _ (t : Table) (P E : ℕ) where
   pub may-sees : May t P E → Sees t P E
   may-sees m =
       record {
-        clear = clear-lies .0 (m .first) .0;
-        tested = clear-lies .0 (m .first) .1;
+        clear = λ a h. clear-lies .0 (m .first) a (inl h);
+        tested = λ a h. clear-lies .0 (m .first) a (inr h);
         sealed = λ a h. sealed-lies .0 (m .second) a (inl h);
         hidden = λ a h. sealed-lies .0 (m .second) a (inr h);
         tied = λ a b c l hb hc out off. ⊎-elim (λ w. out (w b hb)) (λ w. off (w c hc)) (tied-lies .0 (m .third) a l);
@@ -104,7 +102,7 @@ module _ (t : Table) (P E : ℕ) where
   pub sees-may : Sees t P E → May t P E
   sees-may s =
       record {
-        first = clear-lies .1 (s .clear, s .tested);
+        first = clear-lies .1 (λ a. ⊎-elim (s .clear a) (s .tested a));
         second = sealed-lies .1 (λ a. ⊎-elim (s .sealed a) (s .hidden a));
         third = tied-lies .1 (apart-tied (s .tied));
       }

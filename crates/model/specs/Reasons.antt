@@ -74,7 +74,7 @@ standing N i P E = named (lookedAt N i) P E (verdict (reasons N i P E) tt)
 -- the conditions in document 01's words: visible-clear and implicit-clear lie in P; visible-sealed and implicit-sealed lie in P or E; each tied set lies
 -- wholly in P or wholly in E
 abbrev pub ClearLies : Table → ℕ → ℕ → Type 0
-ClearLies t P E = Within (t .clear) P × Within (t .tested) P
+ClearLies t P E = (j : ℕ) → In j (t .clear) ⊎ In j (t .tested) → In j P
 
 abbrev pub SealedLies : Table → ℕ → ℕ → Type 0
 SealedLies t P E = (j : ℕ) → In j (t .sealed) ⊎ In j (t .hidden) → In j P ⊎ In j E

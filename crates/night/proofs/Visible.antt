@@ -156,6 +156,10 @@ module _ (N : Night) (sound : Promised N) (i : ℕ) (l : i < N .header .nodes) w
     operand-map f =
         ⊎-elim (λ h. inl (f (v .left) (sound .node i l .left-lower (step-uses-left (v .kind) s)) h)) (λ h. inr (h .0, f (v .right) (sound .node i l .right-lower (h .0)) (h .1)))
 
+    -- what is so of one operand, used with what holds of that one
+    pub at-operand : {H Q : ℕ → Type 0} {A : Type 0} → H (v .left) → (usesRight (v .kind) ≡ true → H (v .right)) → ((c : ℕ) → c < i → H c → Q c → A) → OfOperand N i Q → A
+    at-operand left right f = ⊎-elim (f _ (sound .node i l .left-lower (step-uses-left (v .kind) s)) left) (λ h. f _ (sound .node i l .right-lower (h .0)) (right (h .0)) (h .1))
+
     -- what is visible after a step is visible in one of its operands
     pub visible-operand : (k : ℕ) → In k (visible N i) → OfOperand N i (λ c. In k (visible N c))
     visible-operand k h = go (visible-step N sound i k l h)

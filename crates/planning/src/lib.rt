@@ -9,7 +9,8 @@ use model::Standing;
 use reading::Checked;
 ghost use mathlib.Core.Path.{_≡_};
 ghost use mathlib.Core.List.{[]};
-ghost use Rattle.planning.specs.Answers.{candidatesSaid, candidatesOf, passedUp, whySaid, whyOf, unread, toldOf, choicePassedUp, CheapestSays, offerPassedUp, OfferedSays};
+ghost use Rattle.planning.specs.Answers.{candidatesSaid, candidatesOf, passedUp, whySaid, whyOf, unread, toldOf};
+ghost use Rattle.planning.specs.Answers.{choicePassedUp, CheapestSays, offerPassedUp, OfferedSays};
 
 // The candidates of a node, as a set of subjects, or the refusal.
 pub enum CandidateSet {
@@ -126,7 +127,9 @@ fn uncosted(answer: Offered) -> OfferedPlan
 
 // The cheapest choice and its plan, written into the rooms lent for the choice, the plan and the keys; a refusal writes nothing.
 pub fn cheapest(file: &[u8], choice: &mut [u8], plan: &mut [u64], keys: &mut [u64]) -> CheapestPlan
-    ensures { λ r. ⌜ CheapestSays (now (file .entry)) (record { choice = now (choice .entry); plan = now (plan .entry); keys = now (keys .entry) }) (record { choice = now (choice .exit); plan = now (plan .exit); keys = now (keys .exit) }) r ⌝ }
+    ensures { λ r. ⌜ CheapestSays (now (file .entry))
+        (record { choice = now (choice .entry); plan = now (plan .entry); keys = now (keys .entry) })
+        (record { choice = now (choice .exit); plan = now (plan .exit); keys = now (keys .exit) }) r ⌝ }
 {
     let chosen = choosing::cheapest_choice(file);
     let said = chosen.said;
@@ -149,7 +152,9 @@ pub fn cheapest(file: &[u8], choice: &mut [u8], plan: &mut [u64], keys: &mut [u6
 
 // The plan for an offered choice, written into the rooms lent for the plan and the keys; a refusal writes nothing.
 pub fn offered(file: &[u8], offer: &[u8], plan: &mut [u64], keys: &mut [u64]) -> OfferedPlan
-    ensures { λ r. ⌜ OfferedSays (now (file .entry)) (now (offer .entry)) (record { choice = []; plan = now (plan .entry); keys = now (keys .entry) }) (record { choice = []; plan = now (plan .exit); keys = now (keys .exit) }) r ⌝ }
+    ensures { λ r. ⌜ OfferedSays (now (file .entry)) (now (offer .entry))
+        (record { choice = []; plan = now (plan .entry); keys = now (keys .entry) })
+        (record { choice = []; plan = now (plan .exit); keys = now (keys .exit) }) r ⌝ }
 {
     let answer = choosing::offered_choice(file, offer);
     let Offered::Costs(total) = answer else {

@@ -42,6 +42,10 @@ abbrev pub placeOf : Says Header → ℕ
 placeOf (answers h) = 0
 placeOf (refuses n p) = p
 
+-- the part, and beside it number and place
+abbrev pub GrantsTold : Says Header → List ℕ → List ℕ → ℕ → ℕ → Type 0
+GrantsTold said s part number place = (part ≡ grantsPart said s) × (number ≡ numberOf said) × (place ≡ placeOf said)
+
 -- the part of grant records is empty exactly when the file is refused
 abbrev pub EmptyWhenRefused : Type 0
 EmptyWhenRefused = (s : List ℕ) → (grantsPart (checkOf s) s ≡ []) ↔ ((n : ℕ) × (p : ℕ) × (checkOf s ≡ refuses n p))

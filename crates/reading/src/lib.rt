@@ -9,7 +9,7 @@ use layout::places;
 use layout::values;
 use night::Header;
 ghost use mathlib.Core.Path.{_≡_};
-ghost use Rattle.reading.specs.Answers.{saidOf, refusedBy, grantsPart, numberOf, placeOf};
+ghost use Rattle.reading.specs.Answers.{saidOf, refusedBy, grantsPart, numberOf, placeOf, GrantsTold};
 ghost use Rattle.trials.specs.Trials.{checkOf};
 
 // What is said of a file: the header's values where it is accepted, or the first refusal.
@@ -69,7 +69,7 @@ pub fn grant_records(file: &[u8]) -> &[u8]
 
 // The same part with the refusal beside it: number and place are 0 where the file is accepted.
 pub fn grant_records_told<'a>(file: &'a [u8]) -> Part<'a>
-    ensures { λ r. ⌜ (now (r .records) ≡ grantsPart (checkOf (now (file .entry))) (now (file .entry))) × (r .number ≡ numberOf (checkOf (now (file .entry)))) × (r .place ≡ placeOf (checkOf (now (file .entry)))) ⌝ }
+    ensures { λ r. ⌜ GrantsTold (checkOf (now (file .entry))) (now (file .entry)) (now (r .records)) (r .number) (r .place) ⌝ }
 {
     let said = check(file);
     Part {

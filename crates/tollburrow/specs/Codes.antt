@@ -85,6 +85,20 @@ abbrev pub costOr : OfferedPlan → ℕ → ℕ
 costOr (Offered total) before = total
 costOr (NoOffered n p) before = before
 
+-- the verdict on a file, and where its part of grant records lies, as numbers
+abbrev pub GrantsOut : Says Header → ℕ → ℕ → ℕ → ℕ → ℕ → Type 0
+GrantsOut said from length from′ length′ code = (code ≡ codeOf said) × (from′ ≡ partFrom said from) × (length′ ≡ partLength said length)
+
+-- what `candidates` says, as numbers
+abbrev pub CandidatesOut : Says ℕ → ℕ → ℕ → ℕ → Type 0
+CandidatesOut said set set′ code = (code ≡ codeOf said) × (set′ ≡ orElse said set)
+
+-- what `why` says, as numbers
+abbrev pub StandingOut : Says Standing → ℕ → ℕ → ℕ → ℕ → ℕ → ℕ → ℕ → Type 0
+StandingOut said table condition set table′ condition′ set′ code =
+    (code ≡ codeOf said) × (table′ ≡ standingOr tableNumber said table)
+    × (condition′ ≡ standingOr conditionNumber said condition) × (set′ ≡ standingOr namedSet said set)
+
 -- what `cheapest` says, as numbers
 pub record CheapestOut (s : List ℕ) (before after : Rooms) (total steps total′ steps′ code : ℕ) : Type 0 where
   pub said : CheapestPlan

@@ -12,7 +12,7 @@ ghost use Rattle.reading.specs.Answers.{saidOf};
 ghost use Rattle.trials.specs.Trials.{checkOf};
 ghost use Rattle.planning.specs.Answers.{candidatesSaid, candidatesOf, whyOf};
 ghost use Rattle.verdicts.specs.Refusals.{Rooms};
-ghost use Rattle.tollburrow.specs.Codes.{codeOf, orElse, partFrom, partLength, tableNumber, conditionNumber, namedSet, standingOr, cheapestCode, offeredCode, CheapestOut, OfferedOut};
+ghost use Rattle.tollburrow.specs.Codes.{codeOf, cheapestCode, offeredCode, GrantsOut, CandidatesOut, StandingOut, CheapestOut, OfferedOut};
 
 // A refusal as one number.
 fn code(number: u8, place: u32) -> u64
@@ -69,7 +69,7 @@ pub extern "C" fn tollburrow_check(file: &[u8]) -> u64
 // Where the grant records lie in the file.
 #[no_mangle]
 pub extern "C" fn tollburrow_grant_records(file: &[u8], from: &mut u64, length: &mut u64) -> u64
-    ensures { λ r. ⌜ (r ≡ codeOf (checkOf (now (file .entry)))) × (now (from .exit) ≡ partFrom (checkOf (now (file .entry))) (now (from .entry))) × (now (length .exit) ≡ partLength (checkOf (now (file .entry))) (now (length .entry))) ⌝ }
+    ensures { λ r. ⌜ GrantsOut (checkOf (now (file .entry))) (now (from .entry)) (now (length .entry)) (now (from .exit)) (now (length .exit)) r ⌝ }
 {
     let answer = reading::check(file);
     let Checked::Accepted(h) = answer else {
@@ -85,7 +85,7 @@ pub extern "C" fn tollburrow_grant_records(file: &[u8], from: &mut u64, length: 
 // The candidates of a node.
 #[no_mangle]
 pub extern "C" fn tollburrow_candidates(file: &[u8], node: usize, set: &mut u16) -> u64
-    ensures { λ r. ⌜ (r ≡ codeOf (candidatesOf (now (file .entry)) node)) × (now (set .exit) ≡ orElse (candidatesOf (now (file .entry)) node) (now (set .entry))) ⌝ }
+    ensures { λ r. ⌜ CandidatesOut (candidatesOf (now (file .entry)) node) (now (set .entry)) (now (set .exit)) r ⌝ }
 {
     let answer = planning::candidates(file, node);
     let CandidateSet::Among(among) = answer else {
@@ -105,7 +105,9 @@ pub extern "C" fn tollburrow_why(
     condition: &mut u8,
     set: &mut u64,
 ) -> u64
-    ensures { λ r. ⌜ (r ≡ codeOf (whyOf (now (file .entry)) node subject)) × (now (table .exit) ≡ standingOr tableNumber (whyOf (now (file .entry)) node subject) (now (table .entry))) × (now (condition .exit) ≡ standingOr conditionNumber (whyOf (now (file .entry)) node subject) (now (condition .entry))) × (now (set .exit) ≡ standingOr namedSet (whyOf (now (file .entry)) node subject) (now (set .entry))) ⌝ }
+    ensures { λ r. ⌜ StandingOut (whyOf (now (file .entry)) node subject)
+        (now (table .entry)) (now (condition .entry)) (now (set .entry))
+        (now (table .exit)) (now (condition .exit)) (now (set .exit)) r ⌝ }
 {
     match planning::why(file, node, subject) {
         SubjectStanding::Candidate => {
@@ -138,7 +140,10 @@ pub extern "C" fn tollburrow_cheapest(
     total: &mut u64,
     steps: &mut u32,
 ) -> u64
-    ensures { λ r. ⌜ CheapestOut (now (file .entry)) (record { choice = now (choice .entry); plan = now (plan .entry); keys = now (keys .entry) }) (record { choice = now (choice .exit); plan = now (plan .exit); keys = now (keys .exit) }) (now (total .entry)) (now (steps .entry)) (now (total .exit)) (now (steps .exit)) r ⌝ }
+    ensures { λ r. ⌜ CheapestOut (now (file .entry))
+        (record { choice = now (choice .entry); plan = now (plan .entry); keys = now (keys .entry) })
+        (record { choice = now (choice .exit); plan = now (plan .exit); keys = now (keys .exit) })
+        (now (total .entry)) (now (steps .entry)) (now (total .exit)) (now (steps .exit)) r ⌝ }
 {
     let answer = planning::cheapest(file, choice, plan, keys);
     let CheapestPlan::Cheapest {
@@ -162,7 +167,10 @@ pub extern "C" fn tollburrow_offered(
     keys: &mut [u64],
     total: &mut u64,
 ) -> u64
-    ensures { λ r. ⌜ OfferedOut (now (file .entry)) (now (offer .entry)) (record { choice = []; plan = now (plan .entry); keys = now (keys .entry) }) (record { choice = []; plan = now (plan .exit); keys = now (keys .exit) }) (now (total .entry)) (now (total .exit)) r ⌝ }
+    ensures { λ r. ⌜ OfferedOut (now (file .entry)) (now (offer .entry))
+        (record { choice = []; plan = now (plan .entry); keys = now (keys .entry) })
+        (record { choice = []; plan = now (plan .exit); keys = now (keys .exit) })
+        (now (total .entry)) (now (total .exit)) r ⌝ }
 {
     let answer = planning::offered(file, offer, plan, keys);
     let OfferedPlan::Offered { total: cost } = answer else {

@@ -10,7 +10,8 @@ use Rattle.verdicts.specs.Refusals.{Rooms, cheapestPlanTrials, offeredPl
 abbrev pub Fits : ℕ → ℕ → Type 0
 Fits number place = (1 ≤ number) × (number < 2 ^ 8) × (place < 2 ^ 32)
 
--- of the file's trials, which every entry begins with, of those of the two choices with their plans, and of the question why, where the node asked for is a word of 32 bits
+-- of the file's trials, which every entry begins with, of those of the two choices with their plans, and of the question why, for a node of
+-- 32 bits
 pub record RefusalsFit : Type 0 where
   pub file : (s : List ℕ) (n p : ℕ) → verdict (trials s) (tt {0}) ≡ refuses n p → Fits n p
   pub cheapest : (s : List ℕ) (rooms : Rooms) (n p : ℕ) → verdict (cheapestPlanTrials s rooms) (tt {0}) ≡ refuses n p → Fits n p
