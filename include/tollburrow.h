@@ -40,11 +40,13 @@ uint64_t tollburrow_why(const uint8_t *file, uint64_t file_length, uint32_t node
 
 /* The cheapest choice and its plan. Of the file's n nodes and a attributes it writes: into choice the subject of each node, n bytes; into plan
  * for each node the set that it opens and the set that it seals, 2n numbers; into keys for each attribute the name of its key, or 64, and the set of
- * that key's holders, or 0, 2a numbers; the total; the steps. What lies beyond in each room stays. Refusals 1 to 11, 12, 13, 15. */
+ * that key's holders, or 0, 2a numbers; the total; the steps. What lies beyond in each room stays. A file of version 2 names a user, who takes what the
+ * root hands over and opens whatever is sealed: it is one of the holders of those keys, and nothing else shows it. Refusals 1 to 11, 17, 12, 13, 15;
+ * 17 is a leaf that holds in clear what the user doesn't see so, the place its node; no file with a user is refused with 12. */
 uint64_t tollburrow_cheapest(const uint8_t *file, uint64_t file_length, uint8_t *choice, uint64_t choice_length, uint64_t *plan, uint64_t plan_length,
                              uint64_t *keys, uint64_t keys_length, uint64_t *total, uint32_t *steps);
 
-/* The plan for an offered choice, a subject for each node: plan and keys as above, and the choice's total. Refusals 1 to 11, 14, 15. */
+/* The plan for an offered choice, a subject for each node: plan and keys as above, and the choice's total. Refusals 1 to 11, 17, 14, 15. */
 uint64_t tollburrow_offered(const uint8_t *file, uint64_t file_length, const uint8_t *offer, uint64_t offer_length, uint64_t *plan, uint64_t plan_length,
                             uint64_t *keys, uint64_t keys_length, uint64_t *total);
 

@@ -2,7 +2,7 @@
 """Writes the cases that the program answers is run on, and what document 01 says of each, by hand. Run from the repository's root."""
 import struct
 
-from night import sample
+from night import sample, with_user
 
 PLANNED = """node 0 subject 0 opens - seals 0,2,3
 node 1 subject %d opens - seals -
@@ -23,11 +23,21 @@ candidates 4 0,2,3,4,5
 candidates 5 2,4
 """
 SAMPLE = "grants 33 252\n" + CANDIDATES
+# with a user the grants stand a byte further; U opens T, attribute 3, which is delivered sealed
+WITH_USER = "grants 34 252\n" + CANDIDATES
+DELIVERED = PLANNED.replace("attributes 3 holders 0\n", "attributes 3 holders 0,2\n")
 # file, offer, lengths of the rooms, the lines after `case K`
 CASES = [
     (sample(), bytes([0, 1, 1, 3, 3, 4]), (64, 128, 128), SAMPLE + "total 14 steps 76\n" + PLANNED % 0 + "offered total 18\n" + PLANNED % 1 + "rooms kept\n"),
     (sample(), bytes(5), (5, 12, 12), SAMPLE + "refused 15 place 1\noffered refused 14 place 6\nrooms kept\n"),
     (sample()[:740], b"", (0, 0, 0), "grants refused 3 place 0\ncandidates refused 3 place 0\nrefused 3 place 0\noffered refused 3 place 0\nrooms kept\n"),
+    (
+        with_user(sample(), 2),
+        bytes([0, 1, 1, 3, 3, 4]),
+        (64, 128, 128),
+        WITH_USER + "total 14 steps 76\n" + DELIVERED % 0 + "offered total 18\n" + DELIVERED % 1 + "rooms kept\n",
+    ),
+    (with_user(sample(), 0), bytes(5), (0, 0, 0), WITH_USER + "refused 17 place 2\noffered refused 17 place 2\nrooms kept\n"),
 ]
 
 

@@ -6,7 +6,7 @@ leaf alone; or a file of the greatest length. What stands beside it is read off 
 """
 import struct
 
-from night import all_kinds, alone, longest, parted, reasons, sample
+from night import all_kinds, alone, longest, parted, reasons, sample, with_user
 
 # name, length, bytes changed, what document 01 says
 FIGURES = [
@@ -16,8 +16,10 @@ FIGURES = [
     ("1 mark's last letter", 741, {2: 81}, "refused 1 place 0"),
     ("1 two bytes", 2, {}, "refused 1 place 0"),
     ("1 no bytes", 0, {}, "refused 1 place 0"),
-    ("2 version 2", 741, {4: 2}, "refused 2 place 0"),
+    ("2 version 0", 741, {4: 0}, "refused 2 place 0"),
+    ("2 version 3", 741, {4: 3}, "refused 2 place 0"),
     ("2 version 257", 741, {3: 1}, "refused 2 place 0"),
+    ("2 version 258", 741, {3: 1, 4: 2}, "refused 2 place 0"),
     ("2 four bytes", 4, {}, "refused 2 place 0"),
     ("3 fourteen bytes", 14, {}, "refused 3 place 0"),
     ("3 fourteen bytes and no subject", 14, {5: 0}, "refused 3 place 0"),
@@ -153,6 +155,27 @@ OTHERS = [
 ]
 
 
+# version 2, with a user: the length, the user, what stands a byte further; nobody asks here which leaves the user may have
+WITH_USER = [
+    ("U as user, 742 bytes", with_user(sample(), 2), "accepted"),
+    ("H as user, who may not have INS", with_user(sample(), 0), "accepted"),
+    ("2 fourteen bytes of version 258", b"AXP\1\2" + with_user(sample(), 2)[5:14], "refused 2 place 0"),
+    ("3 fifteen bytes of version 2", with_user(sample(), 2)[:15], "refused 3 place 0"),
+    ("3 fifteen bytes of version 2, no subject", with_user(sample()[:5] + b"\0" + sample()[6:], 2)[:15], "refused 3 place 0"),
+    ("3 sixteen bytes of version 2", with_user(sample(), 2)[:16], "refused 3 place 0"),
+    ("3 741 bytes of version 2", with_user(sample(), 2)[:741], "refused 3 place 0"),
+    ("3 743 bytes of version 2", with_user(sample(), 2) + b"\0", "refused 3 place 0"),
+    ("4 user 6 of 6", with_user(sample(), 6), "refused 4 place 0"),
+    ("4 user 255", with_user(sample(), 255), "refused 4 place 0"),
+    ("4 user 6 of 6, sixteen bytes", with_user(sample(), 6)[:16], "refused 4 place 0"),
+    ("5 owner 6 of 6, U as user", with_user(sample()[:15] + b"\6" + sample()[16:], 2), "refused 5 place 0"),
+    ("11 last link, U as user", with_user(sample()[:740] + b"\1", 2), "refused 11 place 71"),
+    ("the longest file of version 2, 11,968 bytes", with_user(longest(), 15), "accepted"),
+    ("3 11,967 bytes of version 2", with_user(longest(), 15)[:-1], "refused 3 place 0"),
+    ("3 11,969 bytes of version 2", with_user(longest(), 15) + b"\0", "refused 3 place 0"),
+]
+
+
 # the entries, by the number that a case has
 CHECK, CHEAPEST, OFFERED, WHY = range(4)
 WIDE = (64, 128, 128)
@@ -179,6 +202,19 @@ CHEAPESTS = [
     ("15 plan", sample(), (6, 11, 12), "refused 15 place 2"),
     ("15 keys", sample(), (6, 12, 11), "refused 15 place 3"),
     ("15 choice before keys", sample(), (0, 128, 0), "refused 15 place 1"),
+    ("cheapest, U as user, who may not have B", with_user(sample(), 2), EXACT, "total 14 steps 76"),
+    ("17 H as user", with_user(sample(), 0), WIDE, "refused 17 place 2"),
+    ("17 I as user", with_user(sample(), 1), WIDE, "refused 17 place 0"),
+    ("17 X as user", with_user(sample(), 3), WIDE, "refused 17 place 0"),
+    ("17 Y as user", with_user(sample(), 4), WIDE, "refused 17 place 0"),
+    ("17 Z as user", with_user(sample(), 5), WIDE, "refused 17 place 0"),
+    ("17 who sees every leaf but one sealed", with_user(longest(), 15), WIDE, "refused 17 place 0"),
+    ("17 before 12, nobody may join", with_user(parted(), 0), WIDE, "refused 17 place 1"),
+    ("17 before 13 and 15", with_user(allowed(sample(), 0), 0), (0, 0, 0), "refused 17 place 2"),
+    ("11 before 17", with_user(sample()[:740] + b"\1", 0), WIDE, "refused 11 place 71"),
+    ("13 after 17, U as user", with_user(allowed(sample(), 75), 2), WIDE, "refused 13 place 0"),
+    ("15 after 17, U as user", with_user(sample(), 2), (6, 12, 11), "refused 15 place 3"),
+    ("cheapest of a leaf alone, its owner as user", with_user(allowed(alone([(0, 0, 1, 0)]), 0), 0), (1, 2, 2), "total 0 steps 0"),
 ]
 # the same with the offered choice before the rooms
 SAMPLE_CHOICE = bytes([0, 0, 1, 3, 3, 4])
@@ -199,6 +235,10 @@ OFFERS = [
     ("14 before 15", sample(), bytes(5), (0, 0, 0), "refused 14 place 6"),
     ("15 plan, offered", sample(), SAMPLE_CHOICE, (0, 11, 11), "refused 15 place 2"),
     ("15 keys, offered", sample(), SAMPLE_CHOICE, (0, 12, 11), "refused 15 place 3"),
+    ("offered, U as user", with_user(sample(), 2), SAMPLE_CHOICE, WIDE, "total 14"),
+    ("17 before 14 and 15, H as user", with_user(sample(), 0), bytes(5), (0, 0, 0), "refused 17 place 2"),
+    ("17 where 12 and 13 are not asked", with_user(allowed(parted(), 0), 1), bytes([0, 1, 0]), WIDE, "refused 17 place 0"),
+    ("14 after 17, U as user", with_user(sample(), 2), bytes(5), WIDE, "refused 14 place 6"),
 ]
 # name, file, node, subject, what document 01 and ticket 2026-01 say of why the subject is out
 WHYS = [
@@ -233,6 +273,7 @@ WHYS = [
     ("16 the highest subject", sample(), 3, 4294967295, "refused 16 place 3"),
     ("16 neither node nor subject", sample(), 7, 8, "refused 16 place 7"),
     ("3 before 16", sample()[:-1], 0, 0, "refused 3 place 0"),
+    ("why, I at the join, where X asked", with_user(sample(), 3), 3, 1, "result 3 0,4"),
 ]
 
 
@@ -261,7 +302,7 @@ def first_of_each(cases):
 def main():
     cases = [(name, changed(sample(), length, edits), said) for name, length, edits, said in FIGURES]
     cases += [(name, changed(all_kinds(), len(all_kinds()), edits), said) for name, edits, said in KINDS]
-    cases += OTHERS
+    cases += OTHERS + WITH_USER
     refused = list(first_of_each(cases))
     with open("crates/facts/stdin", "wb") as given, open("crates/facts/stdout", "w", encoding="ascii") as expected:
         for name, file, said in cases:

@@ -1,5 +1,6 @@
 #!/usr/bin/env python3
-"""Writes document 01's sample night as samples/night.axp, and in the specs as a list of bytes and as values; and samples/reasons.axp.
+"""Writes document 01's sample night as samples/night.axp, with U as user as samples/night2.axp, and in the specs as a list of bytes and as
+values; and samples/reasons.axp.
 The files of the specs are laid out by `rt fmt` afterwards.
 
 Run from the repository's root. The grants are those of figure 4 of source document 004.
@@ -28,6 +29,8 @@ NODES = [
 STEP_PRICES = [3, 3, 10, 1, 2, 1]
 LINK_PRICE = 1
 STEPS_ALLOWED = 76
+# who asks for samples/night2.axp
+USER = "U"
 
 
 def bits(names):
@@ -57,6 +60,11 @@ def file_of(s, a, relations, granted, nodes, step_prices, link_price):
     for sender in range(s):
         parts.append(struct.pack(">%dI" % s, *(0 if to == sender else link_price for to in range(s))))
     return b"".join(parts)
+
+
+def with_user(data, user):
+    """A file of version 1 in version 2, with a user after the steps allowed."""
+    return data[:3] + struct.pack(">H", 2) + data[5:15] + bytes([user]) + data[15:]
 
 
 def sample():
@@ -161,8 +169,9 @@ def decoded():
     steps = [[0] * s if node[0] == LEAF else STEP_PRICES for node in NODES]
     links = [[0 if to == sender else LINK_PRICE for to in range(s)] for sender in range(s)]
     lists = [[" ∷ ".join("%d" % price for price in row) + " ∷ []" for row in table] for table in (steps, links)]
-    counts = (1, s, len(RELATIONS), len(ATTRIBUTES), len(NODES), len(granted), STEPS_ALLOWED)
-    parts = [("header", " " + value("version subjects relations attributes nodes grants steps", counts))]
+    counts = (s, len(RELATIONS), len(ATTRIBUTES), len(NODES), len(granted), STEPS_ALLOWED)
+    header = value("subjects relations attributes nodes grants steps", counts)
+    parts = [("header", " " + header.replace("{ ", "{ version = version; ").replace(" }", "; user = user }"))]
     for name, items in [("relations", relations), ("grants", granted), ("nodes", nodes)]:
         parts.append((name, rows(items)))
     for name, items in [("stepPrices", lists[0]), ("linkPrices", lists[1])]:
@@ -174,6 +183,8 @@ def main():
     data = sample()
     with open("samples/night.axp", "wb") as out:
         out.write(data)
+    with open("samples/night2.axp", "wb") as out:
+        out.write(with_user(data, SUBJECTS.index(USER)))
     with open("samples/reasons.axp", "wb") as out:
         out.write(reasons())
     with open("crates/trials/specs/Sample.antt", "w", encoding="utf-8") as out:
@@ -189,11 +200,17 @@ def main():
     with open("crates/demands/specs/SampleNight.antt", "w", encoding="utf-8") as out:
         out.write(
             "-- Document 01's sample night as values, written by samples/night.py.\n"
+            "use Prim.Native.Nat.{ℕ}\n"
             "use mathlib.Core.List.{[], _∷_}\n"
             "use Rattle.night.specs.Night.{Night}\n\n"
+            "-- its values in a version, with a user\n"
+            "unfoldable pub sampleIn : ℕ → ℕ → Night\n"
+            "sampleIn version user =\n    " + decoded() + "\n\n"
             "-- what samples/night.axp holds\n"
-            "unfoldable pub sampleNight : Night\n"
-            "sampleNight =\n    " + decoded() + "\n"
+            "abbrev pub sampleNight : Night\n"
+            "sampleNight = sampleIn 1 0\n\n"
+            "-- what samples/night2.axp holds: %s, subject %d, is the user\n" % (USER, SUBJECTS.index(USER)) + "abbrev pub sampleUser : Night\n"
+            "sampleUser = sampleIn 2 %d\n" % SUBJECTS.index(USER)
         )
 
 

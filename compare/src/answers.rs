@@ -1,5 +1,6 @@
 //! The program `answers`: cases over its standard input, its lines compared.
 
+use crate::coverage::{Line, line};
 use crate::generate::{Case, LONGEST_OFFER, LONGEST_TAKEN};
 use crate::planner::{Rooms, Study, study};
 use crate::program::printed;
@@ -12,6 +13,8 @@ pub struct Stream {
     input: Vec<u8>,
     expected: Vec<String>,
     labels: Vec<String>,
+    /// How many of the files are read as version 2.
+    of_version_2: usize,
 }
 
 fn header(file: usize, offer: usize, rooms: &Rooms) -> Vec<u8> {
@@ -31,10 +34,16 @@ impl Stream {
         let number = self.expected.len();
         self.expected.push(text::case(number, study, &case.offer, &case.rooms));
         self.labels.push(label);
+        let of_version_2 = study.as_ref().is_ok_and(|study| study.file.version() == 2);
+        self.of_version_2 += usize::from(of_version_2);
     }
 
-    pub fn len(&self) -> usize {
-        self.expected.len()
+    /// The table's lines, where so many cases were wanted.
+    pub fn lines(&self, wanted: usize) -> [Line; 2] {
+        [
+            line("cases through answers", self.expected.len(), wanted),
+            line("readable files of version 2 through answers", self.of_version_2, wanted / 5),
+        ]
     }
 
     /// Sends the cases with `tail` after them, which must bring `last`.

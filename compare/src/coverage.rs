@@ -6,6 +6,7 @@ use crate::generate::Case;
 use crate::planner::{Answer, Key, Study};
 use crate::reading::Refusal;
 use crate::slips;
+use crate::usercount::Users;
 use crate::whys::SORTS;
 
 /// From so many cases on, with one large file in so many, each line of the
@@ -15,24 +16,24 @@ pub const FULL_LARGE: usize = 100;
 
 /// Floors for refusals 1 to 15.
 const LEAST_REFUSED: [usize; 15] = [
-    1_800, 1_100, 5_000, 1_800, 5_400, 5_600, 550, 4_600, 3_100, 1_000, 1_400, 3_300, 11_000,
-    21_000, 12_000,
+    1_350, 1_300, 5_400, 2_200, 4_600, 5_600, 550, 4_600, 3_100, 1_000, 1_400, 1_600, 11_000,
+    18_500, 11_700,
 ];
 /// Floors for kinds 0 to 8.
 const LEAST_OF_KIND: [usize; 9] =
     [90_000, 42_000, 64_000, 42_000, 10_000, 19_000, 42_000, 21_000, 42_000];
 /// Floors for the slips, in the order of their names.
 const LEAST_SHOWN: [usize; slips::NAMES.len()] =
-    [22_000, 7_700, 570, 40, 900, 9_000, 8_500, 2_800, 13_500, 3_900];
+    [21_500, 7_700, 570, 40, 880, 8_800, 8_200, 2_800, 13_000, 3_800];
 /// Floors for the sorts of answers to why a subject is out.
 const LEAST_OF_SORT: [usize; SORTS.len()] =
-    [640_000, 225_000, 150_000, 46_000, 6_500, 10_000, 2_300, 9_500, 118_000, 470_000, 260_000];
+    [640_000, 210_000, 140_000, 46_000, 6_400, 9_500, 2_050, 9_400, 118_000, 470_000, 260_000];
 
 /// From so many nodes and subjects on an answered file counts as broad, and
 /// from so many nodes on an accepted offer as one on a long file.
 const BROAD_NODES: usize = 40;
 const BROAD_SUBJECTS: usize = 10;
-const LONG_NODES: usize = 20;
+pub const LONG_NODES: usize = 20;
 /// The limits of a file.
 const MOST_NODES: usize = 64;
 const MOST_SUBJECTS: usize = 16;
@@ -70,9 +71,11 @@ struct Broad {
 struct Tiny {
     files: usize,
     raw: usize,
+    delivered: usize,
     choices: usize,
     plans: usize,
     runs: usize,
+    undelivered: usize,
 }
 
 /// What is counted of the answers to why a subject is out.
@@ -88,7 +91,8 @@ struct Whys {
 
 #[derive(Default)]
 pub struct Coverage {
-    refusals: [usize; 16],
+    /// By number; 16 is counted by the questions that bring it.
+    refusals: [usize; 18],
     kinds: [usize; 9],
     readable: usize,
     answered: usize,
@@ -113,9 +117,10 @@ pub struct Coverage {
     broad: Broad,
     tiny: Tiny,
     whys: Whys,
+    pub users: Users,
 }
 
-fn count(yes: bool) -> usize {
+pub fn count(yes: bool) -> usize {
     usize::from(yes)
 }
 
@@ -208,9 +213,11 @@ impl Coverage {
     pub fn tried(&mut self, tried: &Tried) {
         self.tiny.files += 1;
         self.tiny.raw += count(tried.raw);
+        self.tiny.delivered += count(tried.delivered);
         self.tiny.choices += tried.choices;
         self.tiny.plans += tried.plans;
         self.tiny.runs += tried.runs;
+        self.tiny.undelivered += tried.undelivered;
     }
 
     pub fn lines(&self) -> Vec<Line> {
@@ -220,7 +227,8 @@ impl Coverage {
                 .map(|(i, (&n, &least))| line(&format!("{what} {}", first + i), n, least))
                 .collect::<Vec<Line>>()
         };
-        let mut lines = numbered("cases with refusal", 1, &self.refusals[1..], &LEAST_REFUSED);
+        let mut lines = numbered("cases with refusal", 1, &self.refusals[1..16], &LEAST_REFUSED);
+        lines.push(line("cases with refusal 17", self.refusals[17], 3_600));
         lines.push(line("readable files", self.readable, 59_000));
         lines.extend(numbered("nodes in readable files of kind", 0, &self.kinds, &LEAST_OF_KIND));
         lines.extend(self.lines_of_answers());
@@ -229,6 +237,7 @@ impl Coverage {
             lines.push(line(&format!("files that would show {name}"), count, least));
         }
         lines.extend(self.lines_of_whys());
+        lines.extend(self.users.lines());
         lines.extend(self.lines_of_pointers());
         lines.extend(self.lines_of_runs());
         lines
@@ -236,7 +245,7 @@ impl Coverage {
 
     fn lines_of_answers(&self) -> [Line; 13] {
         [
-            line("steps without a candidate", self.without_candidates, 13_000),
+            line("steps without a candidate", self.without_candidates, 7_500),
             line("steps with several candidates", self.several_candidates, 170_000),
             line("files with a root tied set of 5 or more", self.wide_ties, 1_400),
             line("cheapest answered", self.answered, 33_000),
@@ -271,7 +280,7 @@ impl Coverage {
             line(
                 "steps in broad answered, for some subjects but not all",
                 broad.contested_steps,
-                21_000,
+                20_000,
             ),
         ]
     }
@@ -283,11 +292,11 @@ impl Coverage {
             .map(|((sort, count), least)| line(&format!("asked why: {sort}"), count, least))
             .collect();
         lines.extend([
-            line("asked why: one named of several that offend", whys.several_offend, 125_000),
-            line("asked why: one named that is implicit alone", whys.implicit_alone, 110_000),
-            line("asked why: a tied set of 3 or more named", whys.wide_ties, 22_000),
-            line("asked why: a tied set named, not all of it visible", whys.faded_ties, 31_000),
-            line("asked why: a tied set named, another fails too", whys.ties_behind, 3_800),
+            line("asked why: one named of several that offend", whys.several_offend, 118_000),
+            line("asked why: one named that is implicit alone", whys.implicit_alone, 106_000),
+            line("asked why: a tied set of 3 or more named", whys.wide_ties, 21_000),
+            line("asked why: a tied set named, not all of it visible", whys.faded_ties, 30_000),
+            line("asked why: a tied set named, another fails too", whys.ties_behind, 3_600),
         ]);
         lines
     }
@@ -295,7 +304,7 @@ impl Coverage {
     fn lines_of_pointers(&self) -> [Line; 6] {
         let [file, offer, choice, plan, keys] = self.null;
         [
-            line("null pointers with length 0 for the file", file, 45),
+            line("null pointers with length 0 for the file", file, 35),
             line("null pointers with length 0 for the offer", offer, 670),
             line("null pointers with length 0 for the choice", choice, 1_000),
             line("null pointers with length 0 for the plan", plan, 770),
@@ -304,16 +313,18 @@ impl Coverage {
         ]
     }
 
-    fn lines_of_runs(&self) -> [Line; 7] {
+    fn lines_of_runs(&self) -> [Line; 9] {
         let tiny = &self.tiny;
         [
             line("built plans run clean", self.clean_runs, 64_000),
-            line("built plans of wrong choices run, none clean", self.faulty_runs, 3_500),
+            line("built plans of wrong choices run, none clean", self.faulty_runs, 2_700),
             line("tiny files with every plan tried", tiny.files, 10_000),
             line("tiny files so tried, even with sets out of place", tiny.raw, 5_900),
+            line("tiny files so tried, with the delivery", tiny.delivered, 4_300),
             line("choices in tiny files so tried", tiny.choices, 61_000),
             line("plans in tiny files so tried", tiny.plans, 10_000_000),
             line("runs in tiny files so tried", tiny.runs, 10_000_000),
+            line("runs that end at a delivery, 17 refused", tiny.undelivered, 1_500),
         ]
     }
 }

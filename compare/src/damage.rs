@@ -4,6 +4,10 @@
 use crate::file::*;
 use crate::rng::Rng;
 
+/// Versions that there are not, some of which would be if only one of the two
+/// bytes were read, or the two in the other order.
+pub const OTHER_VERSIONS: [u64; 6] = [0, 3, 256, 257, 258, 512];
+
 /// Bytes put in the place of others.
 pub struct Patch {
     at: usize,
@@ -61,7 +65,8 @@ impl Patches<'_> {
         for (at, letter) in b"AXP".iter().enumerate() {
             self.number(at, 1, &[0, u64::from(letter ^ 32), 255]);
         }
-        self.number(3, 2, &[0, 2, 256, 257, 65_535]);
+        self.number(3, 2, &OTHER_VERSIONS);
+        self.number(3, 2, &[1, 2, 65_535]);
         for (at, limit) in [(5, 16), (6, 16), (7, 64), (8, 64)] {
             let count = u64::from(self.written[at]);
             self.number(at, 1, &[0, limit, limit + 1, 255, count - 1, count + 1]);
@@ -69,12 +74,24 @@ impl Patches<'_> {
         let grants = self.file.grants.len() as u64;
         self.number(9, 2, &[272, 273, 65_535, grants + 1, grants.saturating_sub(1)]);
         self.number(11, 4, &[0, 1]);
+        self.user();
+    }
+
+    /// Every other user, and numbers that nobody has: the first of them, and some
+    /// that would be somebody's if they were cut to fewer bits.
+    fn user(&mut self) {
+        let subjects = self.file.subjects as u64;
+        if let Some(user) = self.file.user {
+            let everyone: Vec<u64> = (0..subjects).collect();
+            self.number(USER_AT, 1, &everyone);
+            self.number(USER_AT, 1, &[subjects, 16, 16 + user as u64, 128 + user as u64, 255]);
+        }
     }
 
     fn relations(&mut self) {
         let subjects = self.file.subjects;
         for index in 0..self.file.relations.len() {
-            let at = HEADER + RELATION * index;
+            let at = self.file.layout().relations + RELATION * index;
             let other = self.rng.below(subjects) as u64;
             self.number(at, 1, &[subjects as u64, 16, 255, other]);
             self.set(at + 1);

@@ -99,9 +99,13 @@ fn for_raw_plans(file: &File, each: &mut dyn FnMut(&Plan) -> bool) -> bool {
 
 pub struct Tried {
     pub raw: bool,
+    /// Whether there is a user, and one who may have every leaf's table.
+    pub delivered: bool,
     pub choices: usize,
     pub plans: usize,
     pub runs: usize,
+    /// Runs that reached the root, but not the user.
+    pub undelivered: usize,
 }
 
 /// A choice with owners at the leaves, and whether a plan ran clean for it.
@@ -136,23 +140,33 @@ fn plans_within(file: &File, raw: bool, most: usize) -> Option<usize> {
 }
 
 /// For every choice with owners at the leaves: some plan runs clean exactly
-/// when each chosen subject is a candidate. `None` where there are too many.
+/// when each chosen subject is a candidate. `None` where there are too many. A
+/// user who may have every leaf's table is delivered all that reaches the root;
+/// where another user is named, a run is clean when it reaches the root.
 pub fn try_every(study: &Study) -> Result<Option<Tried>, String> {
     let file = &study.file;
     let Some(mut tallies) = every_choice(study) else { return Ok(None) };
     let raw = raw_bits(file) <= RAW_BITS;
     let Some(plans) = plans_within(file, raw, MOST_RUNS / tallies.len()) else { return Ok(None) };
-    let mut tried = Tried { raw, choices: tallies.len(), plans, runs: 0 };
+    let delivered = file.user.is_some() && study.user_passes().is_ok();
+    let mut tried =
+        Tried { raw, delivered, choices: tallies.len(), plans, runs: 0, undelivered: 0 };
     let walk = if raw { for_raw_plans } else { for_sensible_plans };
     walk(file, &mut |plan| {
         let mut waiting = false;
         for tally in tallies.iter_mut().filter(|tally| !tally.clean) {
             tried.runs += 1;
-            tally.clean = run(file, &study.views, &tally.choice, plan).is_ok();
+            let ended = run(file, &study.views, &tally.choice, plan);
+            let undelivered = ended.is_err_and(|fault| fault.at_delivery());
+            tried.undelivered += usize::from(undelivered);
+            tally.clean = ended.is_ok() || undelivered;
             waiting |= !tally.clean;
         }
         waiting
     });
+    if delivered && tried.undelivered > 0 {
+        return Err(format!("{} runs that do not reach the user", tried.undelivered));
+    }
     let wrong = |tally: &&Tally| tally.clean != study.wronged(&tally.choice).is_none();
     match tallies.iter().find(wrong) {
         Some(Tally { choice, clean }) => Err(format!("choice {choice:?}: some clean plan {clean}")),

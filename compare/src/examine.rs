@@ -25,6 +25,7 @@ pub fn examine(
         Ok(study) => examine_read(case, study, verdicts, coverage),
         Err(refusal) => {
             coverage.refused(&[*refusal]);
+            coverage.users.refused(&case.file);
             Ok(())
         }
     }
@@ -41,7 +42,21 @@ fn examine_read(
     if study.file.write() != case.file {
         return Err("the file written again is another".into());
     }
+    user_stands(study)?;
     two_ways(study, coverage)?;
+    examine_answers(case, study, coverage)?;
+    wrong_runs_faulty(study, &case.offer, coverage)?;
+    // Only those made tiny: the small ones that happen to be would cost more.
+    if case.family == "tiny"
+        && let Some(tried) = every::try_every(study)?
+    {
+        coverage.tried(&tried);
+    }
+    Ok(())
+}
+
+/// What the two planning calls give: refusals as they may come, plans that run.
+fn examine_answers(case: &Case, study: &Study, coverage: &mut Coverage) -> Result<(), String> {
     let cheapest = study.cheapest(&case.rooms);
     let offered = study.offered(&case.offer, &case.rooms);
     if let (Ok(answer), Ok(options)) = (&cheapest, study.full_options()) {
@@ -51,20 +66,18 @@ fn examine_read(
     if offered.is_ok() {
         coverage.accepted(study);
     }
+    if study.file.user.is_some() && cheapest.as_ref().is_err_and(|refusal| refusal.number == 12) {
+        return Err("refusal 12 for a file of version 2".into());
+    }
     let refusals: Vec<Refusal> =
         [&cheapest, &offered].into_iter().filter_map(|r| r.as_ref().err().copied()).collect();
     coverage.refused(&refusals);
-    for answer in [&cheapest, &offered].into_iter().flatten() {
+    let answers: Vec<&Answer> = [&cheapest, &offered].into_iter().flatten().collect();
+    for answer in &answers {
         coverage.keys(&answer.keys);
         runs_clean(study, answer, coverage)?;
     }
-    wrong_runs_faulty(study, &case.offer, coverage)?;
-    // Only those made tiny: the small ones that happen to be would cost more.
-    if case.family == "tiny"
-        && let Some(tried) = every::try_every(study)?
-    {
-        coverage.tried(&tried);
-    }
+    coverage.users.read(study, case, &answers);
     Ok(())
 }
 
@@ -84,6 +97,25 @@ fn reasons_hold(
         all.push(failing);
     }
     Ok(all)
+}
+
+/// The leaves that bar a user are those whose tables the run forbids; where none
+/// does, the user is a candidate of every step, so that none is without.
+fn user_stands(study: &Study) -> Result<(), String> {
+    let Some(user) = study.file.user else { return Ok(()) };
+    let barred = study.barred_leaves(user);
+    let forbidden = run::forbidden_leaf(&study.file, &study.views[user]);
+    if barred.first().copied() != forbidden {
+        return Err(format!("user {user} is barred by {barred:?}, but forbidden {forbidden:?}"));
+    }
+    let may_run =
+        |node: usize| study.file.owner_at(node).is_some() || study.candidates[node].contains(&user);
+    match (0..study.file.nodes.len()).find(|&node| !may_run(node)) {
+        Some(step) if barred.is_empty() => {
+            Err(format!("user {user} may have all leaves, but is no candidate of step {step}"))
+        }
+        _ => Ok(()),
+    }
 }
 
 fn two_ways(study: &Study, coverage: &mut Coverage) -> Result<(), String> {
@@ -127,7 +159,8 @@ fn wrong_runs_faulty(study: &Study, offer: &[u8], coverage: &mut Coverage) -> Re
     if !of_subjects || study.wronged(&choice).is_none() {
         return Ok(());
     }
-    if run::run(file, views, &choice, plan).is_ok() {
+    // One that only ends at the delivery has reached the root, too.
+    if run::run(file, views, &choice, plan).err().is_none_or(|fault| fault.at_delivery()) {
         return Err(format!("the built plan for {choice:?} runs clean, with no candidate"));
     }
     coverage.faulty_runs += 1;

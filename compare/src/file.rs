@@ -2,12 +2,16 @@
 
 use crate::sets::Flags;
 
-pub const HEADER: usize = 15;
+/// How long the header is; that of version 2 ends with the user.
+const HEADER: usize = 15;
+pub const USER_AT: usize = HEADER;
 pub const RELATION: usize = 9;
 pub const GRANT: usize = 18;
 pub const NODE: usize = 28;
-/// How long a file can be, every count at its limit.
-pub const LONGEST: usize = 11_967;
+/// How long a file of version 1 can be, every count at its limit; one of version
+/// 2 has a byte more.
+pub const LONGEST_1: usize = 11_967;
+pub const LONGEST_2: usize = LONGEST_1 + 1;
 pub const ANY: u8 = 255;
 pub const UNUSED: u8 = 255;
 pub const MOST_SIZE: u64 = 1_000_000;
@@ -117,6 +121,8 @@ pub struct Node {
 
 #[derive(Clone, PartialEq, Debug)]
 pub struct File {
+    /// Who asked: in version 2 somebody, in version 1 nobody.
+    pub user: Option<usize>,
     pub subjects: usize,
     pub attributes: usize,
     pub allowed: u32,
@@ -127,8 +133,27 @@ pub struct File {
     pub link_prices: Vec<Vec<u64>>,
 }
 
+/// How long the header of a version is, if there is such a version.
+pub fn header_of(version: u64) -> Option<usize> {
+    match version {
+        1 => Some(HEADER),
+        2 => Some(HEADER + 1),
+        _ => None,
+    }
+}
+
+/// The counts that tell how long the sections are.
+pub struct Counts {
+    pub header: usize,
+    pub subjects: usize,
+    pub relations: usize,
+    pub grants: usize,
+    pub nodes: usize,
+}
+
 /// Where each section starts.
 pub struct Layout {
+    pub relations: usize,
     pub grants: usize,
     pub nodes: usize,
     pub step_prices: usize,
@@ -137,19 +162,35 @@ pub struct Layout {
 }
 
 impl Layout {
-    pub fn new(subjects: usize, relations: usize, grants: usize, nodes: usize) -> Layout {
-        let grants_at = HEADER + RELATION * relations;
-        let nodes_at = grants_at + GRANT * grants;
-        let step_prices = nodes_at + NODE * nodes;
-        let link_prices = step_prices + 4 * nodes * subjects;
-        let end = link_prices + 4 * subjects * subjects;
-        Layout { grants: grants_at, nodes: nodes_at, step_prices, link_prices, end }
+    pub fn of(counts: &Counts) -> Layout {
+        let relations = counts.header;
+        let grants = relations + RELATION * counts.relations;
+        let nodes = grants + GRANT * counts.grants;
+        let step_prices = nodes + NODE * counts.nodes;
+        let link_prices = step_prices + 4 * counts.nodes * counts.subjects;
+        let end = link_prices + 4 * counts.subjects * counts.subjects;
+        Layout { relations, grants, nodes, step_prices, link_prices, end }
     }
 }
 
 impl File {
     pub fn layout(&self) -> Layout {
-        Layout::new(self.subjects, self.relations.len(), self.grants.len(), self.nodes.len())
+        Layout::of(&Counts {
+            header: HEADER + usize::from(self.user.is_some()),
+            subjects: self.subjects,
+            relations: self.relations.len(),
+            grants: self.grants.len(),
+            nodes: self.nodes.len(),
+        })
+    }
+
+    pub fn version(&self) -> usize {
+        if self.user.is_some() { 2 } else { 1 }
+    }
+
+    /// The leaves' numbers, rising.
+    pub fn leaves(&self) -> Vec<usize> {
+        (0..self.nodes.len()).filter(|&node| self.nodes[node].work.is_leaf()).collect()
     }
 
     /// The owner where the node is a leaf.
@@ -160,16 +201,28 @@ impl File {
         }
     }
 
+    /// Puts in a grant, instead of the one for its pair if there is one.
+    pub fn put(&mut self, grant: Grant) {
+        let same =
+            |old: &&mut Grant| old.relation == grant.relation && old.subject == grant.subject;
+        match self.grants.iter_mut().find(same) {
+            Some(old) => *old = grant,
+            None => self.grants.push(grant),
+        }
+    }
+
     pub fn root(&self) -> usize {
         self.nodes.len() - 1
     }
 
     pub fn write(&self) -> Vec<u8> {
-        let mut out = b"AXP\x00\x01".to_vec();
+        let mut out = b"AXP".to_vec();
+        out.extend((self.version() as u16).to_be_bytes());
         let counts = [self.subjects, self.relations.len(), self.attributes, self.nodes.len()];
         out.extend(counts.map(|count| count as u8));
         out.extend((self.grants.len() as u16).to_be_bytes());
         out.extend(self.allowed.to_be_bytes());
+        out.extend(self.user.map(|user| user as u8));
         for relation in &self.relations {
             out.push(relation.owner as u8);
             out.extend(relation.set.bits().to_be_bytes());

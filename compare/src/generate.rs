@@ -1,11 +1,12 @@
 //! Cases: a file, an offer and room lengths, each case from the seed and its
 //! index alone.
 
-use crate::damage::{Patch, patches};
-use crate::file::File;
+use crate::damage::{OTHER_VERSIONS, Patch, patches};
+use crate::file::{Counts, File, Layout, USER_AT, header_of};
 use crate::planner::{Rooms, Study, study};
 use crate::rng::Rng;
 use crate::served::serve;
+use crate::users;
 use crate::valid::{self, Size};
 use crate::why::Question;
 
@@ -60,30 +61,32 @@ pub fn case(seed: u64, index: usize, large_every: usize) -> Case {
         16..=21 => valid_case(&mut rng, "tiny", Size::Tiny, false),
         22..=24 => valid_case(&mut rng, "medium", Size::Medium, false),
         25..=27 => valid_case(&mut rng, "deep", Size::Deep, false),
-        28..=35 => {
-            let file = one_fault(seed, round * 8 + slot - 28, &mut rng);
-            finish(&mut rng, "one fault", file, false)
+        _ => {
+            let (family, file) = damaged(seed, round, slot, &mut rng);
+            finish(&mut rng, family, file, false)
         }
+    }
+}
+
+/// Files that mostly break some rule.
+fn damaged(seed: u64, round: usize, slot: usize, rng: &mut Rng) -> (&'static str, Vec<u8>) {
+    match slot {
+        28..=35 => ("one fault", one_fault(seed, round * 8 + slot - 28, rng)),
         36..=41 => {
             let size = rng.pick(&[Size::Tiny, Size::Small, Size::Deep, Size::Medium]);
-            let base = valid::file(&mut rng, size, false);
+            let mut base = valid::file(rng, size, false);
+            users::name(rng, &mut base, false);
             let faults = rng.pick(&[1, 1, 1, 2, 2, 3]);
-            let file = with_faults(&mut rng, &base, faults);
-            finish(&mut rng, "faults", file, false)
+            ("faults", with_faults(rng, &base, faults))
         }
-        42..=43 => {
-            let file = cut(seed, round * 2 + slot - 42, &mut rng);
-            finish(&mut rng, "cut", file, false)
-        }
-        44..=46 => {
-            let file = noise(&mut rng);
-            finish(&mut rng, "noise", file, false)
-        }
+        42..=43 => ("cut", cut(seed, round * 2 + slot - 42, rng)),
+        44..=45 => ("noise", noise(rng)),
+        46 => ("header", bad_header(rng)),
         _ => {
-            let base = valid::file(&mut rng, Size::Small, true);
+            let mut base = valid::file(rng, Size::Small, true);
+            users::name(rng, &mut base, false);
             let faults = usize::from(rng.percent(30));
-            let file = with_faults(&mut rng, &base, faults);
-            finish(&mut rng, "torn", file, false)
+            ("torn", with_faults(rng, &base, faults))
         }
     }
 }
@@ -107,6 +110,7 @@ fn valid_case(rng: &mut Rng, family: &'static str, size: Size, served: bool) -> 
         serve(rng, &mut file);
     }
     let fits = served && rng.percent(90);
+    users::name(rng, &mut file, fits);
     if let Ok(study) = study(&file.write()) {
         let steps = study.steps() as u32;
         file.allowed = match mode(rng, 7, fits) {
@@ -125,11 +129,15 @@ fn mode(rng: &mut Rng, right: usize, fits: bool) -> usize {
     rng.below(if fits { right } else { 10 })
 }
 
-/// A base for damage done in order: the same for all cases of a span.
+/// A base for damage done in order: the same for all cases of a span. Of each
+/// size both versions come in turn.
 fn base(seed: u64, number: usize) -> (Rng, File) {
     let mut rng = Rng::new(!seed, number as u64);
     let size = if number % 4 == 3 { Size::Tiny } else { Size::Small };
-    let file = valid::file(&mut rng, size, false);
+    let mut file = valid::file(&mut rng, size, false);
+    if (number / 4 + number) % 2 == 1 {
+        users::name_allowed(&mut rng, &mut file);
+    }
     (rng, file)
 }
 
@@ -175,6 +183,38 @@ fn cut(seed: u64, position: usize, rng: &mut Rng) -> Vec<u8> {
     bytes
 }
 
+/// A right file but for its header: cut at the end of either version's, where a
+/// count out of its limits tells 3 from 4, of a version that there is not, or with
+/// a user who is not there.
+fn bad_header(rng: &mut Rng) -> Vec<u8> {
+    let mut file = valid::file(rng, Size::Tiny, false);
+    users::name(rng, &mut file, false);
+    let nobody = rng.pick(&[file.subjects, file.subjects, file.subjects + 1, 16, 128, 255]);
+    let turn = rng.below(4);
+    if turn == 3 {
+        file.user = Some(nobody);
+    }
+    let mut bytes = file.write();
+    match turn {
+        0 | 1 => {
+            if rng.percent(50) {
+                bytes[rng.within(5, 8)] = rng.pick(&[0, 255]);
+            }
+            bytes.truncate(rng.pick(&[14, 15, 15, 16]));
+        }
+        2 => {
+            let version = rng.pick(&OTHER_VERSIONS) as u16;
+            bytes[3..5].copy_from_slice(&version.to_be_bytes());
+        }
+        _ => {
+            // That nobody has the number comes before the length.
+            let length = bytes.len() - 1 + rng.pick(&[0, 1, 1, 2]);
+            bytes.resize(length, 0);
+        }
+    }
+    bytes
+}
+
 /// Bytes of no plan, from none right to all counts and the length right.
 fn noise(rng: &mut Rng) -> Vec<u8> {
     let length = match rng.below(10) {
@@ -184,21 +224,35 @@ fn noise(rng: &mut Rng) -> Vec<u8> {
         _ => rng.within(0, 300),
     };
     let mut bytes = rng.bytes(length);
-    let right = rng.pick(&[0, 2, 3, 4, 5, 5, 5]);
-    for (byte, mark) in bytes.iter_mut().zip(b"AXP\x00\x01").take(right) {
-        *byte = *mark;
-    }
+    let version = rng.within(1, 2);
+    let start = [b'A', b'X', b'P', 0, version as u8];
     if rng.percent(40) {
-        let (subjects, relations) = (rng.within(1, 16), rng.within(1, 16));
-        let (nodes, grants) = (rng.within(1, 64), rng.within(0, 20));
-        let end = crate::file::Layout::new(subjects, relations, grants, nodes).end;
-        bytes = rng.bytes(end);
-        let counts = [subjects, relations, rng.within(1, 64), nodes, 0, grants];
-        bytes[..5].copy_from_slice(b"AXP\x00\x01");
-        bytes[5..11].copy_from_slice(&counts.map(|count| count as u8));
-        // A right owner lets the noise reach the first set.
-        bytes[15] = 0;
+        return counted_noise(rng, version, &start);
     }
+    let right = rng.pick(&[0, 2, 3, 4, 5, 5, 5]);
+    for (byte, mark) in bytes.iter_mut().zip(start).take(right) {
+        *byte = mark;
+    }
+    bytes
+}
+
+fn counted_noise(rng: &mut Rng, version: usize, start: &[u8; 5]) -> Vec<u8> {
+    let counts = Counts {
+        header: header_of(version as u64).expect("there is such a version"),
+        subjects: rng.within(1, 16),
+        relations: rng.within(1, 16),
+        nodes: rng.within(1, 64),
+        grants: rng.within(0, 20),
+    };
+    let layout = Layout::of(&counts);
+    let Counts { subjects, relations, nodes, grants, .. } = counts;
+    let mut bytes = rng.bytes(layout.end);
+    let counts = [subjects, relations, rng.within(1, 64), nodes, 0, grants];
+    bytes[..5].copy_from_slice(start);
+    bytes[5..11].copy_from_slice(&counts.map(|count| count as u8));
+    // A user and an owner who are there let the noise reach the first set.
+    bytes[USER_AT] = rng.below(subjects) as u8;
+    bytes[layout.relations] = 0;
     bytes
 }
 

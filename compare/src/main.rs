@@ -24,6 +24,9 @@ mod sets;
 mod slips;
 mod starts;
 mod text;
+mod usercount;
+mod users;
+mod userslips;
 mod valid;
 mod views;
 mod why;
@@ -32,7 +35,7 @@ mod whys;
 use std::process::ExitCode;
 use std::time::{Duration, Instant};
 
-use coverage::{Coverage, Line, line};
+use coverage::{Coverage, Line};
 use generate::Case;
 use planner::Study;
 use reading::Refusal;
@@ -57,6 +60,7 @@ struct Options {
     plan: Option<String>,
     why: Option<String>,
     night: Option<String>,
+    night2: Option<String>,
     alone: bool,
 }
 
@@ -70,6 +74,7 @@ fn options() -> Result<Options, String> {
         plan: None,
         why: None,
         night: None,
+        night2: None,
         alone: false,
     };
     let mut words = std::env::args().skip(1);
@@ -82,6 +87,7 @@ fn options() -> Result<Options, String> {
             "--plan" => options.plan = Some(value()?),
             "--why" => options.why = Some(value()?),
             "--night" => options.night = Some(value()?),
+            "--night2" => options.night2 = Some(value()?),
             "--cases" => options.cases = number(value()?)? as usize,
             "--seed" => options.seed = number(value()?)?,
             "--lines" => options.lines = number(value()?)? as usize,
@@ -93,6 +99,27 @@ fn options() -> Result<Options, String> {
         return Err("built without the library: only --alone can be run".into());
     }
     Ok(options)
+}
+
+/// Checks the sample night, in the versions that are there.
+fn nights(options: &Options) -> Result<(), String> {
+    let read = |path: &String| std::fs::read(path).map_err(|error| format!("{path}: {error}"));
+    let first = options.night.as_ref().map(read).transpose()?;
+    let second = options.night2.as_ref().map(read).transpose()?;
+    if let Some(bytes) = &first {
+        night::check(bytes)?;
+        println!("the sample night gives its text");
+    }
+    if let Some(bytes) = &second {
+        night::check_2(bytes)?;
+        println!("the sample night of version 2 gives its text");
+    }
+    match (first, second) {
+        (Some(first), Some(second)) if night::in_version_2(&first) != second => {
+            Err("the sample nights differ by more than the user".into())
+        }
+        _ => Ok(()),
+    }
 }
 
 fn hex(bytes: &[u8]) -> String {
@@ -194,7 +221,7 @@ impl Runner {
             self.stream.compare_all(command)?;
             answers::compare_cuts(command, &self.readable(|_| true))?;
             let wanted = self.options.lines.min(self.options.cases);
-            lines.push(line("cases through answers", self.stream.len(), wanted));
+            lines.extend(self.stream.lines(wanted));
         }
         if let Some(command) = &self.options.plan {
             plans::compare_lengths(command, self.options.seed)?;
@@ -210,11 +237,7 @@ impl Runner {
     }
 
     fn all(&mut self) -> Result<(), String> {
-        if let Some(path) = &self.options.night {
-            let bytes = std::fs::read(path).map_err(|error| format!("{path}: {error}"))?;
-            night::check(&bytes)?;
-            println!("the sample night gives its text");
-        }
+        nights(&self.options)?;
         let start = Instant::now();
         for (index, send) in sent(&self.options).into_iter().enumerate() {
             self.case(index, send)?;

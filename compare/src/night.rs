@@ -1,8 +1,18 @@
-//! The sample night: its text and its figures as the rules print them.
+//! The sample night in both versions: its text and its figures as the rules print
+//! them.
 
+use crate::file::USER_AT;
 use crate::planner::study;
 use crate::text;
 use crate::why::{Question, verdicts};
+
+/// Who asks in the night's version 2, and what that changes in the text.
+const USER: u8 = 2;
+const WITHOUT_USER: &str = "key 3 attributes 3 holders 0\n";
+const WITH_USER: &str = "key 3 attributes 3 holders 0,2\n";
+/// The others, and the leaf that each may not have; the first number of nobody.
+const OTHER_USERS: [(u8, usize); 5] = [(0, 2), (1, 0), (3, 0), (4, 0), (5, 0)];
+const NOBODY: u8 = 6;
 
 const TEXT: &str = "\
 total 14 steps 76
@@ -33,6 +43,41 @@ pub fn check(bytes: &[u8]) -> Result<(), String> {
     expect("75 steps allowed", &fewer, "refused 13 place 0\n")?;
     expect("740 bytes", &bytes[..740], "refused 3 place 0\n")?;
     expect("742 bytes", &[bytes, &[0]].concat(), "refused 3 place 0\n")?;
+    figures(bytes)?;
+    check_2(&in_version_2(bytes))
+}
+
+/// The night of version 1 with its user.
+pub fn in_version_2(bytes: &[u8]) -> Vec<u8> {
+    let mut asked = bytes.to_vec();
+    asked[3..5].copy_from_slice(&2u16.to_be_bytes());
+    asked.insert(USER_AT, USER);
+    asked
+}
+
+pub fn check_2(bytes: &[u8]) -> Result<(), String> {
+    expect("version 2", bytes, &TEXT.replace(WITHOUT_USER, WITH_USER))?;
+    let mut fewer = bytes.to_vec();
+    fewer[11..15].copy_from_slice(&75u32.to_be_bytes());
+    expect("version 2, 75 steps allowed", &fewer, "refused 13 place 0\n")?;
+    for length in [15, 16, 741] {
+        expect("version 2, cut", &bytes[..length], "refused 3 place 0\n")?;
+    }
+    expect("version 2, 743 bytes", &[bytes, &[0]].concat(), "refused 3 place 0\n")?;
+    let mut other = bytes.to_vec();
+    for (user, leaf) in OTHER_USERS {
+        other[USER_AT] = user;
+        expect(&format!("user {user}"), &other, &format!("refused 17 place {leaf}\n"))?;
+        // Who may run a step does not hang on who asks.
+        figures(&other)?;
+    }
+    other[USER_AT] = NOBODY;
+    expect(&format!("user {NOBODY}"), &other, "refused 4 place 0\n")?;
+    figures(bytes)
+}
+
+/// The candidates, and why one is out.
+fn figures(bytes: &[u8]) -> Result<(), String> {
     let why = text::why(&verdicts(&study(bytes), &[Question { node: 3, subject: 1 }])[0]);
     if why != "result 3 0,4\n" {
         return Err(format!("the sample night, why subject 1 is out of node 3: {why}"));

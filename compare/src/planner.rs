@@ -13,6 +13,8 @@ pub struct Study {
     pub views: Vec<View>,
     pub candidates: Vec<Vec<usize>>,
     pub plan: Plan,
+    /// What is sealed in the table that the root hands over.
+    pub handed_sealed: Flags,
     pub tables: Vec<Vec<Profile>>,
 }
 
@@ -50,8 +52,8 @@ pub fn study(bytes: &[u8]) -> Result<Study, Refusal> {
     let views: Vec<View> = (0..file.subjects).map(|subject| of_subject(&file, subject)).collect();
     let tables = tables(&file, |_| {});
     let candidates = candidates(&file, &views, &tables);
-    let plan = plan(&file);
-    Ok(Study { file, views, candidates, plan, tables })
+    let (plan, handed_sealed) = plan(&file);
+    Ok(Study { file, views, candidates, plan, handed_sealed, tables })
 }
 
 fn result(tables: &[Profile]) -> &Profile {
@@ -84,8 +86,9 @@ pub fn candidates(file: &File, views: &[View], tables: &[Vec<Profile>]) -> Vec<V
     file.nodes.iter().zip(tables).map(of_node).collect()
 }
 
-/// Openings and sealings: the same for every choice.
-fn plan(file: &File) -> Plan {
+/// Openings and sealings, and what the root leaves sealed: the same for every
+/// choice.
+fn plan(file: &File) -> (Plan, Flags) {
     let mut left: Vec<Profile> = Vec::new();
     let mut plan = Plan { opens: Vec::new(), seals: Vec::new() };
     for (index, node) in file.nodes.iter().enumerate() {
@@ -103,7 +106,7 @@ fn plan(file: &File) -> Plan {
         plan.opens.push(opens);
         plan.seals.push(seals);
     }
-    plan
+    (plan, left[file.root()].visible_sealed)
 }
 
 impl Study {
@@ -149,8 +152,13 @@ impl Study {
         (0..choice.len()).find(|&node| !options[node].contains(&choice[node]))
     }
 
+    /// The root's result over least views.
+    pub fn root_table(&self) -> &Profile {
+        result(&self.tables[self.file.root()])
+    }
+
     fn root_ties(&self) -> &Ties {
-        &result(&self.tables[self.file.root()]).ties
+        &self.root_table().ties
     }
 
     /// How many attributes the widest of the root's tied sets has.
@@ -169,7 +177,28 @@ impl Study {
         choice.iter().zip(below).any(|(&subject, set)| self.views[subject].sealed.meets(&set))
     }
 
+    /// The leaves, rising, whose tables as the leaves hold them, all in clear, this
+    /// user may not have.
+    pub fn barred_leaves(&self, user: usize) -> Vec<usize> {
+        let barred = |&leaf: &usize| !may_have(&self.views[user], result(&self.tables[leaf]));
+        self.file.leaves().into_iter().filter(barred).collect()
+    }
+
+    /// Whether the user, if there is one, may have every leaf's table.
+    pub fn user_passes(&self) -> Result<(), Refusal> {
+        let barred = self.file.user.map_or(Vec::new(), |user| self.barred_leaves(user));
+        match barred.first() {
+            Some(&leaf) => refuse(17, leaf),
+            None => Ok(()),
+        }
+    }
+
     pub fn keys(&self, choice: &[usize]) -> Vec<Key> {
+        self.keys_delivered(choice, self.file.user)
+    }
+
+    /// The keys if the root's table is delivered to this user, or to nobody.
+    pub fn keys_delivered(&self, choice: &[usize], user: Option<usize>) -> Vec<Key> {
         let Plan { opens, seals } = &self.plan;
         let mut waiting: Vec<usize> = seals.iter().fold(Flags::NONE, |sum, s| sum.or(s)).list();
         let mut keys = Vec::new();
@@ -184,6 +213,11 @@ impl Study {
                     holders.put(subject);
                 }
             }
+            if let Some(user) = user
+                && self.handed_sealed.meets(&group)
+            {
+                holders.put(user);
+            }
             keys.push(Key { attributes, holders: holders.list() });
         }
         keys
@@ -195,7 +229,7 @@ impl Study {
         Answer { choice, keys, total, steps }
     }
 
-    fn room_suffices(&self, rooms: &Rooms) -> Result<(), Refusal> {
+    pub fn room_suffices(&self, rooms: &Rooms) -> Result<(), Refusal> {
         let nodes = self.file.nodes.len();
         let wants = [nodes, 2 * nodes, 2 * self.file.attributes];
         let lent = [rooms.choice, rooms.plan, rooms.keys];
@@ -205,8 +239,10 @@ impl Study {
         }
     }
 
-    /// What every node may be given, if the search may take its steps.
+    /// What every node may be given, if the user may ask for it and the search
+    /// may take its steps.
     pub fn searched(&self) -> Result<Options, Refusal> {
+        self.user_passes()?;
         let options = self.full_options()?;
         let suffices = self.steps() <= u64::from(self.file.allowed);
         if suffices { Ok(options) } else { refuse(13, 0) }
@@ -219,14 +255,21 @@ impl Study {
         Ok(self.answer(best.choice(), Some(self.steps())))
     }
 
-    pub fn offered(&self, offer: &[u8], rooms: &Rooms) -> Result<Answer, Refusal> {
+    /// Whether every node is offered a subject that may be given it.
+    pub fn fitting(&self, offer: &[u8]) -> Result<Vec<usize>, Refusal> {
         if offer.len() != self.file.nodes.len() {
             return refuse(14, self.file.nodes.len());
         }
         let choice: Vec<usize> = offer.iter().map(|&subject| subject.into()).collect();
-        if let Some(node) = self.wronged(&choice) {
-            return refuse(14, node);
+        match self.wronged(&choice) {
+            Some(node) => refuse(14, node),
+            None => Ok(choice),
         }
+    }
+
+    pub fn offered(&self, offer: &[u8], rooms: &Rooms) -> Result<Answer, Refusal> {
+        self.user_passes()?;
+        let choice = self.fitting(offer)?;
         // The offered call is lent no room for a choice.
         self.room_suffices(&Rooms { choice: usize::MAX, ..*rooms })?;
         Ok(self.answer(choice, None))

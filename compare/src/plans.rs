@@ -7,26 +7,38 @@ use crate::reading::Refusal;
 use crate::starts::{self, MANY_NODES, Starts, same};
 use crate::text;
 
-/// So many answered files, so many of each refusal 1 to 13, and so many answered
-/// ones of many nodes.
-const WANTED: [usize; 15] = [80, 16, 16, 16, 16, 16, 16, 16, 16, 16, 16, 16, 16, 16, 20];
-const MANY: usize = WANTED.len() - 1;
+/// So many answered files of each version, so many that have many nodes, and so
+/// many of each refusal.
+const OF_ANSWERED: usize = 40;
+const OF_MANY: usize = 10;
+const OF_REFUSAL: usize = 16;
+const REFUSALS: [u64; 14] = [1, 2, 3, 4, 5, 6, 7, 8, 9, 10, 11, 12, 13, 17];
 
+/// The sorts, those of answers first: by the version, then those of many nodes.
 pub fn starts() -> Starts {
-    let what = |sort: usize| match sort {
-        0 => "answered files through plan".to_owned(),
-        MANY => format!("answered files of {MANY_NODES} nodes or more through plan"),
-        number => format!("files with refusal {number} through plan"),
+    let answered = |(which, wanted): (String, usize)| {
+        [1, 2].map(|version| {
+            (format!("answered files of version {version}{which} through plan"), wanted)
+        })
     };
-    Starts::of((0..WANTED.len()).map(|sort| (what(sort), WANTED[sort])).collect())
+    let which =
+        [(String::new(), OF_ANSWERED), (format!(" with {MANY_NODES} nodes or more"), OF_MANY)];
+    let refused = |number| (format!("files with refusal {number} through plan"), OF_REFUSAL);
+    let sorts = which.into_iter().flat_map(answered);
+    Starts::of(sorts.chain(REFUSALS.into_iter().map(refused)).collect())
 }
 
 pub fn sort(study: &Result<Study, Refusal>) -> usize {
     let searched = study.as_ref().map_err(|refusal| *refusal).and_then(|s| Ok((s, s.searched()?)));
     match searched {
-        Ok((study, _)) if study.file.nodes.len() >= MANY_NODES => MANY,
-        Ok(_) => 0,
-        Err(refusal) => refusal.number as usize,
+        Ok((study, _)) => {
+            let many = study.file.nodes.len() >= MANY_NODES;
+            study.file.version() - 1 + 2 * usize::from(many)
+        }
+        Err(refusal) => {
+            let place = REFUSALS.iter().position(|&number| number == refusal.number);
+            4 + place.expect("the search is refused with one of these")
+        }
     }
 }
 

@@ -22,44 +22,53 @@ fn set_at(bytes: &[u8], at: usize) -> Flags {
     Flags::from_bits(number(bytes, at, 8))
 }
 
-struct Counts {
-    subjects: usize,
-    relations: usize,
+/// The header: its counts, and what else it says.
+struct Header {
+    counts: Counts,
     attributes: usize,
-    nodes: usize,
-    grants: usize,
+    allowed: u32,
+    user: Option<usize>,
 }
 
-fn counts(bytes: &[u8]) -> Result<Counts, Refusal> {
+/// The version as it stands, if the mark stands before it.
+pub fn version(bytes: &[u8]) -> Result<u64, Refusal> {
     if bytes.len() < 3 || &bytes[..3] != b"AXP" {
         return refuse(1, 0);
     }
-    if bytes.len() < 5 || number(bytes, 3, 2) != 1 {
-        return refuse(2, 0);
-    }
-    if bytes.len() < HEADER {
+    if bytes.len() < 5 { refuse(2, 0) } else { Ok(number(bytes, 3, 2)) }
+}
+
+fn header(bytes: &[u8]) -> Result<Header, Refusal> {
+    let version = version(bytes)?;
+    let Some(length) = header_of(version) else { return refuse(2, 0) };
+    if bytes.len() < length {
         return refuse(3, 0);
     }
     let counts = Counts {
+        header: length,
         subjects: bytes[5].into(),
         relations: bytes[6].into(),
-        attributes: bytes[7].into(),
         nodes: bytes[8].into(),
         grants: number(bytes, 9, 2) as usize,
     };
+    let attributes = bytes[7].into();
+    let user = (version == 2).then(|| bytes[USER_AT].into());
     let within = (1..=16).contains(&counts.subjects)
         && (1..=16).contains(&counts.relations)
-        && (1..=64).contains(&counts.attributes)
+        && (1..=64).contains(&attributes)
         && (1..=64).contains(&counts.nodes)
-        && counts.grants <= 272;
-    if within { Ok(counts) } else { refuse(4, 0) }
+        && counts.grants <= 272
+        && user.is_none_or(|user| user < counts.subjects);
+    let allowed = number(bytes, 11, 4) as u32;
+    if within { Ok(Header { counts, attributes, allowed, user }) } else { refuse(4, 0) }
 }
 
-fn relations(bytes: &[u8], counts: &Counts) -> Result<Vec<Relation>, Refusal> {
-    let mut free = Flags::below(counts.attributes);
+fn relations(bytes: &[u8], at: usize, header: &Header) -> Result<Vec<Relation>, Refusal> {
+    let counts = &header.counts;
+    let mut free = Flags::below(header.attributes);
     let mut out = Vec::new();
     for index in 0..counts.relations {
-        let at = HEADER + RELATION * index;
+        let at = at + RELATION * index;
         let relation = Relation { owner: bytes[at].into(), set: set_at(bytes, at + 1) };
         // What is not free is out of range or taken: one place for both.
         if relation.owner >= counts.subjects
@@ -74,11 +83,15 @@ fn relations(bytes: &[u8], counts: &Counts) -> Result<Vec<Relation>, Refusal> {
     if free.is_empty() { Ok(out) } else { refuse(5, counts.relations) }
 }
 
-fn grants(bytes: &[u8], counts: &Counts, relations: &[Relation]) -> Result<Vec<Grant>, Refusal> {
-    let start = HEADER + RELATION * counts.relations;
+fn grants(
+    bytes: &[u8],
+    at: usize,
+    counts: &Counts,
+    relations: &[Relation],
+) -> Result<Vec<Grant>, Refusal> {
     let mut out: Vec<Grant> = Vec::new();
     for index in 0..counts.grants {
-        let at = start + GRANT * index;
+        let at = at + GRANT * index;
         let grant = Grant {
             relation: bytes[at].into(),
             subject: (bytes[at + 1] != ANY).then(|| bytes[at + 1].into()),
@@ -279,14 +292,15 @@ fn prices(
 }
 
 pub fn read(bytes: &[u8]) -> Result<File, Refusal> {
-    let counts = counts(bytes)?;
+    let header = header(bytes)?;
+    let counts = &header.counts;
     let subjects = counts.subjects;
-    let layout = Layout::new(subjects, counts.relations, counts.grants, counts.nodes);
+    let layout = Layout::of(counts);
     if bytes.len() != layout.end {
         return refuse(3, 0);
     }
-    let relations = relations(bytes, &counts)?;
-    let grants = grants(bytes, &counts, &relations)?;
+    let relations = relations(bytes, layout.relations, &header)?;
+    let grants = grants(bytes, layout.grants, counts, &relations)?;
     owners_see_all(&relations, &grants)?;
     let nodes = nodes(bytes, layout.nodes, counts.nodes, &relations)?;
     // Where 0 is fixed, the most that a price may be is 0.
@@ -300,9 +314,10 @@ pub fn read(bytes: &[u8]) -> Result<File, Refusal> {
     let first_link = counts.nodes * subjects;
     let link_prices = prices(bytes, layout.link_prices, first_link, &link_limits)?;
     Ok(File {
+        user: header.user,
         subjects,
-        attributes: counts.attributes,
-        allowed: number(bytes, 11, 4) as u32,
+        attributes: header.attributes,
+        allowed: header.allowed,
         relations,
         grants,
         nodes,

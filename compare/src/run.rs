@@ -30,6 +30,16 @@ struct Table {
 pub enum Fault {
     Stuck(usize),
     Forbidden(usize),
+    /// The root was reached, but the user lacks a key of its table.
+    UserStuck,
+    /// The root was reached, but its table is forbidden to the user.
+    UserForbidden,
+}
+
+impl Fault {
+    pub fn at_delivery(&self) -> bool {
+        matches!(self, Fault::UserStuck | Fault::UserForbidden)
+    }
 }
 
 impl Table {
@@ -89,6 +99,19 @@ fn forbidden(view: &View, table: &Table) -> bool {
     })
 }
 
+fn leaf(set: &Flags) -> Table {
+    let columns = set.list().into_iter().map(|a| (a, Form::Clear)).collect();
+    Table { columns, past: Vec::new() }
+}
+
+/// The lowest leaf whose table, as the leaf holds it, is forbidden.
+pub fn forbidden_leaf(file: &File, view: &View) -> Option<usize> {
+    file.nodes.iter().position(|node| match &node.work {
+        Work::Leaf { set, .. } => forbidden(view, &leaf(set)),
+        _ => false,
+    })
+}
+
 /// One run: the plan and choice, and the keys that follow from them.
 struct Run<'a> {
     file: &'a File,
@@ -98,8 +121,28 @@ struct Run<'a> {
     key_of: [Option<&'a Key>; WIDTH],
 }
 
-/// The keys of any openings and sealings. Every step is in the root's past.
+/// What is still sealed in the table that the root hands over, its own sealing
+/// included: by the openings and sealings alone, as keys are, so that it is there
+/// even for those that get stuck.
+fn handed_sealed(file: &File, plan: &Plan) -> Flags {
+    let mut left: Vec<(Flags, Flags)> = Vec::new();
+    for (index, node) in file.nodes.iter().enumerate() {
+        let (mut seen, mut sealed) = (Flags::NONE, Flags::NONE);
+        for child in node.work.children() {
+            seen = seen.or(&left[child].0);
+            sealed = sealed.or(&left[child].1);
+        }
+        let after = node.work.visible_after(&seen);
+        sealed = sealed.minus(&plan.opens[index]).or(&plan.seals[index]);
+        left.push((after, sealed.and(&after)));
+    }
+    left[file.root()].1
+}
+
+/// The keys of any openings and sealings. Every step is in the root's past. To
+/// the user, if there is one, the delivery is one opening more.
 pub fn keys(file: &File, choice: &[usize], plan: &Plan) -> Vec<Key> {
+    let delivery = file.user.map(|user| (user, handed_sealed(file, plan)));
     let ties: Vec<Flags> = file.nodes.iter().filter_map(|node| tie_of(&node.work)).collect();
     let sealed: Vec<usize> =
         (0..file.attributes).filter(|&a| plan.seals.iter().any(|seals| seals.has(a))).collect();
@@ -115,6 +158,8 @@ pub fn keys(file: &File, choice: &[usize], plan: &Plan) -> Vec<Key> {
         };
         let mut holders: Vec<usize> =
             (0..choice.len()).filter(touches).map(|node| choice[node]).collect();
+        let taken = |(_, opened): &(usize, Flags)| attributes.iter().any(|&a| opened.has(a));
+        holders.extend(delivery.filter(taken).map(|(user, _)| user));
         holders.sort();
         holders.dedup();
         keys.push(Key { attributes, holders });
@@ -204,10 +249,7 @@ impl Run<'_> {
             self.ask(node, operand)?;
         }
         let mut table = match &self.file.nodes[node].work {
-            Work::Leaf { set, .. } => {
-                let columns = set.list().into_iter().map(|a| (a, Form::Clear)).collect();
-                Table { columns, past: Vec::new() }
-            }
+            Work::Leaf { set, .. } => leaf(set),
             _ => {
                 let table = self.work(node, operands)?;
                 self.ask(node, &table)?;
@@ -217,9 +259,29 @@ impl Run<'_> {
         self.seal(node, &mut table)?;
         Ok(table)
     }
+
+    /// The user takes what the root hands over and opens all that is sealed,
+    /// whoever ran the root.
+    fn deliver(&self, user: usize, mut table: Table) -> Result<(), Fault> {
+        if forbidden(&self.views[user], &table) {
+            return Err(Fault::UserForbidden);
+        }
+        for column in &mut table.columns {
+            if column.1 != Form::Clear {
+                let key = self.key_of[column.0];
+                if !key.is_some_and(|key| key.holders.contains(&user)) {
+                    return Err(Fault::UserStuck);
+                }
+                column.1 = Form::Clear;
+            }
+        }
+        let refused = forbidden(&self.views[user], &table);
+        if refused { Err(Fault::UserForbidden) } else { Ok(()) }
+    }
 }
 
-/// Runs any openings and sealings; the first fault, if there is one.
+/// Runs any openings and sealings, and the delivery where there is a user; the
+/// first fault, if there is one.
 pub fn run(file: &File, views: &[View], choice: &[usize], plan: &Plan) -> Result<(), Fault> {
     let keys = keys(file, choice, plan);
     let mut key_of = [None; WIDTH];
@@ -236,5 +298,8 @@ pub fn run(file: &File, views: &[View], choice: &[usize], plan: &Plan) -> Result
         let table = run.node(index, operands)?;
         tables.push(Some(table));
     }
-    Ok(())
+    match (file.user, tables.pop().flatten()) {
+        (Some(user), Some(table)) => run.deliver(user, table),
+        _ => Ok(()),
+    }
 }

@@ -35,10 +35,5 @@ fn widen(file: &mut File, relation: usize, subject: usize, in_clear: bool) {
     let all = file.relations[relation].set;
     let held = views::of_relation(&file.grants, relation, subject);
     let clear = if in_clear { all } else { held.clear };
-    let grant = Grant { relation, subject: Some(subject), clear, sealed: all.minus(&clear) };
-    let same = |old: &&mut Grant| old.relation == relation && old.subject == grant.subject;
-    match file.grants.iter_mut().find(same) {
-        Some(old) => *old = grant,
-        None => file.grants.push(grant),
-    }
+    file.put(Grant { relation, subject: Some(subject), clear, sealed: all.minus(&clear) });
 }

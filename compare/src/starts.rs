@@ -2,9 +2,10 @@
 //! the inputs that all are started on.
 
 use crate::coverage::{Line, line};
-use crate::file::LONGEST;
+use crate::file::{LONGEST_1, LONGEST_2};
 use crate::rng::Rng;
 use crate::served::serve;
+use crate::users;
 use crate::valid::{self, Size};
 
 /// A file of so many nodes is of a sort of its own.
@@ -45,7 +46,7 @@ pub fn same(expected: &str, printed: &str) -> Result<(), String> {
     Err(format!("expected\n{expected}\nprinted\n{printed}"))
 }
 
-/// Compares on the longest file that is read, on longer ones, and on none.
+/// Compares on the longest file of each version, on longer ones, and on none.
 pub fn compare_lengths(
     seed: u64,
     compare: impl Fn(&[u8]) -> Result<(), String>,
@@ -53,11 +54,18 @@ pub fn compare_lengths(
     let mut rng = Rng::new(seed, u64::MAX);
     let mut file = valid::file(&mut rng, Size::Longest, false);
     serve(&mut rng, &mut file);
-    let longest = file.write();
-    for length in [LONGEST, LONGEST + 1, LONGEST + 2, 3 * LONGEST, 0] {
+    let first = file.write();
+    users::name_allowed(&mut rng, &mut file);
+    let second = file.write();
+    let first_at = [LONGEST_1, LONGEST_1 + 1, LONGEST_1 + 2, 0].map(|length| (&first, length));
+    let second_at = [LONGEST_2, LONGEST_2 + 1, 3 * LONGEST_2].map(|length| (&second, length));
+    for (longest, length) in first_at.into_iter().chain(second_at) {
         let mut bytes = longest.clone();
         bytes.resize(length, 0);
-        compare(&bytes).map_err(|text| format!("the longest file at {length} bytes\n{text}"))?;
+        let version = longest[4];
+        compare(&bytes).map_err(|text| {
+            format!("the longest file of version {version} at {length} bytes\n{text}")
+        })?;
     }
     Ok(())
 }

@@ -298,8 +298,8 @@ fn prices(rng: &mut Rng, file: &mut File, even: bool) {
     }
 }
 
-/// A file that keeps every rule, save that a part of those asked for `torn`
-/// have more than one tree. Any number of steps is allowed in it.
+/// A file of version 1 that keeps every rule, save that a part of those asked for
+/// `torn` have more than one tree. Any number of steps is allowed in it.
 pub fn file(rng: &mut Rng, size: Size, torn: bool) -> File {
     let shape = shape(rng, size);
     let relations = relations(rng, &shape);
@@ -321,6 +321,7 @@ pub fn file(rng: &mut Rng, size: Size, torn: bool) -> File {
     forest.grow(shape.nodes, shape.leaves, trees);
     let nodes = forest.nodes;
     let mut file = File {
+        user: None,
         subjects: shape.subjects,
         attributes: shape.attributes,
         allowed: u32::MAX,

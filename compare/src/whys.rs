@@ -23,12 +23,13 @@ pub const SORTS: [&str; 11] = [
     "refusal 16 for a node not there",
     "refusal 16 for a subject not there",
 ];
-/// So many starts of each of these sorts, of each refusal 1 to 11, and so many
-/// answered ones on files of many nodes.
-const WANTED: [usize; SORTS.len()] = [40, 24, 24, 24, 24, 24, 24, 40, 12, 12, 12];
+/// On files of each version so many starts of each of these sorts, and so many
+/// answered ones on files of many nodes; and so many of each refusal 1 to 11.
+const WANTED: [usize; SORTS.len()] = [20, 12, 12, 12, 12, 12, 12, 20, 6, 6, 6];
+const OF_MANY: usize = 10;
 const OF_REFUSAL: usize = 8;
-const OF_MANY: usize = 20;
-const MANY: usize = SORTS.len() + 11;
+/// How many sorts of starts there are on files of one version.
+const OF_VERSION: usize = SORTS.len() + 1;
 
 /// Words that are no question.
 const BAD: [&[&[u8]]; 4] = [&[], &[b"0"], &[b"0", b"0", b"0"], &[b"", b""]];
@@ -53,11 +54,14 @@ const NO_NUMBER: [&[u8]; 16] = [
 ];
 
 pub fn starts() -> Starts {
-    let what = |sort: &str| format!("starts of why, {sort}");
-    let answers = SORTS.iter().zip(WANTED).map(|(sort, wanted)| (what(sort), wanted));
-    let refused = (1..=11).map(|number| (what(&format!("refusal {number}")), OF_REFUSAL));
-    let many = (what(&format!("answered for {MANY_NODES} nodes or more")), OF_MANY);
-    Starts::of(answers.chain(refused).chain([many]).collect())
+    let many = format!("answered for {MANY_NODES} nodes or more");
+    let sorts = || SORTS.into_iter().zip(WANTED).chain([(&many[..], OF_MANY)]);
+    let read = [1, 2].into_iter().flat_map(|version| {
+        let what = move |sort: &str| format!("starts of why in version {version}, {sort}");
+        sorts().map(move |(sort, wanted)| (what(sort), wanted))
+    });
+    let refused = (1..=11).map(|number| (format!("starts of why, refusal {number}"), OF_REFUSAL));
+    Starts::of(read.chain(refused).collect())
 }
 
 /// Where an answer on a file stands among the sorts.
@@ -75,14 +79,16 @@ pub fn sort(study: &Study, asked: Question, verdict: &Verdict) -> usize {
     }
 }
 
-/// The sort for which a start is counted: refusals 1 to 11 come behind those of
-/// answers, and last the files of many nodes.
+/// The sort for which a start is counted: those of version 1 with its files of
+/// many nodes last, then those of version 2, then refusals 1 to 11.
 pub fn start_sort(study: &Result<Study, Refusal>, asked: Question, verdict: &Verdict) -> usize {
-    match study {
-        Err(refusal) => SORTS.len() - 1 + refusal.number as usize,
-        Ok(study) if study.file.nodes.len() >= MANY_NODES && verdict.is_ok() => MANY,
-        Ok(study) => sort(study, asked, verdict),
-    }
+    let study = match study {
+        Err(refusal) => return 2 * OF_VERSION - 1 + refusal.number as usize,
+        Ok(study) => study,
+    };
+    let many = study.file.nodes.len() >= MANY_NODES && verdict.is_ok();
+    let sort = if many { SORTS.len() } else { sort(study, asked, verdict) };
+    (study.file.version() - 1) * OF_VERSION + sort
 }
 
 /// Compares what is printed for two words with the answer to their numbers.

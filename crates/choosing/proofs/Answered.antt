@@ -24,13 +24,14 @@ use Rattle.layout.specs.Layout.{headerOf, nightIn, nightOf}
 use Rattle.model.specs.Candidates.{candidateSet}
 use Rattle.model.specs.Choice.{ownerOf, Admissible, AllHave, total, steps}
 use Rattle.model.specs.Dp.{costRows, bestLast, chosenLast, giveDown, chosen}
-use Rattle.verdicts.specs.Refusals.{withoutCandidate, candidateTrials, stepsTrials, offerBad, offerTrials, cheapestTrials, offeredTrials}
+use Rattle.verdicts.specs.Refusals.{withoutCandidate, candidateTrials, stepsTrials, offerBad, offerTrials, choiceTrials, choosingOf, cheapestTrials, offeredTrials}
+use Rattle.verdicts.proofs.User.{choosing-accepted}
 use Rattle.model.proofs.May.{set-exactly}
 use Rattle.model.proofs.Once.{least-once}
 use Rattle.model.proofs.Dp.{dp-least, chosen-total}
-use Rattle.trials.specs.Trials.{trials, checkOf}
+use Rattle.trials.specs.Trials.{checkOf}
 use Rattle.trials.proofs.Opened.{accepted-header}
-use Rattle.trials.proofs.Promises.{accepted-promises}
+use Rattle.trials.proofs.Promises.{accepted-sound}
 use Rattle.choosing.specs.Answers.{CheapestFor, ChoiceSays, ChoiceOnce, offeredOf, OfferedOnce}
 use Rattle.choosing.specs.Held.{Given}
 use Rattle.choosing.specs.declared.Cheapest.the-variants.{Found, Refused}
@@ -107,31 +108,34 @@ module _ (N : Night) (offer : List ℕ) where
       }
 
 module _ (s : List ℕ) where
-  -- reading refuses
-  pub choice-unread : (n p : ℕ) → checkOf s ≡ refuses n p → ChoiceSays s (replicate 64 0) (Refused n p)
-  unfolding checkOf cheapestTrials
-  choice-unread n p e = (refused-then (trials s) _ (headerOf s) (tt {0}) n p e, refl)
+  -- 1 to 11 or 17 refuse
+  pub choice-unread : (n p : ℕ) → choosingOf s ≡ refuses n p → ChoiceSays s (replicate 64 0) (Refused n p)
+  unfolding choosingOf cheapestTrials
+  choice-unread n p e = (refused-then (choiceTrials s) _ (headerOf s) (tt {0}) n p e, refl)
 
-  pub offer-unread : (offer : List ℕ) (n p : ℕ) → checkOf s ≡ refuses n p → offeredOf s offer ≡ refuses n p
-  unfolding checkOf offeredOf offeredTrials
-  offer-unread offer n p e = refused-then (trials s) _ (headerOf s) _ n p e
+  pub offer-unread : (offer : List ℕ) (n p : ℕ) → choosingOf s ≡ refuses n p → offeredOf s offer ≡ refuses n p
+  unfolding choosingOf offeredOf offeredTrials
+  offer-unread offer n p e = refused-then (choiceTrials s) _ (headerOf s) _ n p e
 
-  module _ (h : Header) (e : checkOf s ≡ answers h) where
-    -- reading accepts: its facts, over the header that it answers with
+  module _ (h : Header) (e : choosingOf s ≡ answers h) where
+    -- these pass: reading's facts, over the header that is answered
+    accepted : checkOf s ≡ answers h
+    accepted = choosing-accepted s h e
+
     same : nightOf s ≡ nightIn s h
-    same = ap (λ (k : Header). nightIn s k) (accepted-header s h e)
+    same = ap (λ (k : Header). nightIn s k) (accepted-header s h accepted)
 
     pub sound-night : Promised (nightIn s h)
-    sound-night = rw same at (accepted-promises s h e)
+    sound-night = accepted-sound s h accepted
 
-    read : verdict (trials s) (tt {0}) ≡ answers tt
-    unfolding checkOf
-    read = accepted-alike (trials s) (headerOf s) h tt e
+    read : verdict (choiceTrials s) (tt {0}) ≡ answers tt
+    unfolding choosingOf
+    read = accepted-alike (choiceTrials s) (headerOf s) h tt e
 
     choice-verdict : (v : Says (Unit {0})) → verdict (candidateTrials (nightIn s h) ++ stepsTrials (nightIn s h)) (tt {0}) ≡ v → verdict (cheapestTrials s) (tt {0}) ≡ v
     unfolding cheapestTrials
     choice-verdict v q =
-        passed-then (trials s) _ (tt {0}) (tt {0}) read ∙ ap (λ (M : Night). verdict (candidateTrials M ++ stepsTrials M) (tt {0})) same ∙ q
+        passed-then (choiceTrials s) _ (tt {0}) (tt {0}) read ∙ ap (λ (M : Night). verdict (candidateTrials M ++ stepsTrials M) (tt {0})) same ∙ q
 
     pub choice-refused : (n p : ℕ) → verdict (candidateTrials (nightIn s h) ++ stepsTrials (nightIn s h)) (tt {0}) ≡ refuses n p → ChoiceSays s (replicate 64 0) (Refused n p)
     choice-refused n p q = (choice-verdict (refuses n p) q, refl)
@@ -143,12 +147,12 @@ module _ (s : List ℕ) where
     pub offer-refused : (offer : List ℕ) (n p : ℕ) → verdict (offerTrials (nightIn s h) offer) (tt {0}) ≡ refuses n p → offeredOf s offer ≡ refuses n p
     unfolding offeredOf offeredTrials
     offer-refused offer n p q =
-        passed-then (trials s) _ (tt {0}) _ read ∙ refused-alike (offerTrials (nightOf s) offer) (tt {0}) _ n p (ap (λ (M : Night). verdict (offerTrials M offer) (tt {0})) same ∙ q)
+        passed-then (choiceTrials s) _ (tt {0}) _ read ∙ refused-alike (offerTrials (nightOf s) offer) (tt {0}) _ n p (ap (λ (M : Night). verdict (offerTrials M offer) (tt {0})) same ∙ q)
 
     pub offer-costs : (offer : List ℕ) → verdict (offerTrials (nightIn s h) offer) (tt {0}) ≡ answers tt → offeredOf s offer ≡ answers (total (nightIn s h) (λ i. getD offer i 0))
     unfolding offeredOf offeredTrials
     offer-costs offer q =
-        passed-then (trials s) _ (tt {0}) _ read
+        passed-then (choiceTrials s) _ (tt {0}) _ read
         ∙ accepted-alike (offerTrials (nightOf s) offer) (tt {0}) tt _ (ap (λ (M : Night). verdict (offerTrials M offer) (tt {0})) same ∙ q)
         ∙ ap (λ (M : Night). answers (total M (λ i. getD offer i 0))) same
 

@@ -4,3 +4,4 @@ pub mod Held
 mod Summed
 pub mod Offers
 pub mod Answered
+mod Users

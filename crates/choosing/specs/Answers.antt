@@ -33,7 +33,7 @@ ChoiceSays s subjects (NotFound n p) = (verdict (cheapestTrials s) (tt {0}) ≡ 
 abbrev pub noChoice : ℕ → ℕ → Chosen
 noChoice n p = record { said = NotFound n p; subjects = replicate 64 0 }
 
--- reading's refusal as this answer
+-- the file's refusal as this answer
 abbrev pub notChosen : Checked → Chosen
 notChosen (Accepted h) = noChoice 0 0
 notChosen (Refused n p) = noChoice n p
@@ -47,7 +47,7 @@ abbrev pub offeredSaid : Offered → Says ℕ
 offeredSaid (Costs total) = answers total
 offeredSaid (NotCosted n p) = refuses n p
 
--- reading's refusal as this answer
+-- the file's refusal as this answer
 abbrev pub notCosted : Checked → Offered
 notCosted (Accepted h) = Costs 0
 notCosted (Refused n p) = NotCosted n p

@@ -5,6 +5,7 @@ mod offer;
 mod rows;
 mod steps;
 mod subjects;
+mod user;
 
 use reading::Checked;
 ghost use mathlib.Core.Path.{_≡_};
@@ -39,7 +40,7 @@ fn refused(number: u8, place: u32) -> Chosen
     }
 }
 
-// Reading's refusal, passed up. (An acceptance is never handed in.)
+// The file's refusal, passed up. (An acceptance is never handed in.)
 fn unread(answer: Checked) -> Chosen
     ensures { λ r. ⌜ r ≡ notChosen answer ⌝ }
 {
@@ -53,7 +54,7 @@ fn unread(answer: Checked) -> Chosen
 pub fn cheapest_choice(file: &[u8]) -> Chosen
     ensures { λ r. ⌜ ChoiceSays (now (file .entry)) (r .subjects) (r .said) ⌝ }
 {
-    let answer = reading::check(file);
+    let answer = user::checked(file);
     let Checked::Accepted(h) = answer else {
         return unread(answer);
     };
@@ -75,7 +76,7 @@ pub fn cheapest_choice(file: &[u8]) -> Chosen
     Chosen { said, subjects }
 }
 
-// Reading's refusal of an offer, passed up. (An acceptance is never handed in.)
+// The file's refusal of an offer, passed up. (An acceptance is never handed in.)
 fn not_costed(answer: Checked) -> Offered
     ensures { λ r. ⌜ r ≡ notCosted answer ⌝ }
 {
@@ -89,7 +90,7 @@ fn not_costed(answer: Checked) -> Offered
 pub fn offered_choice(file: &[u8], offer: &[u8]) -> Offered
     ensures { λ r. ⌜ offeredSaid r ≡ offeredOf (now (file .entry)) (now (offer .entry)) ⌝ }
 {
-    let answer = reading::check(file);
+    let answer = user::checked(file);
     let Checked::Accepted(h) = answer else {
         return not_costed(answer);
     };

@@ -17,10 +17,12 @@ use Rattle.trials.specs.Trials.{trials, checkOf}
 use Rattle.trials.proofs.Promises.{accepted-promises}
 use Rattle.model.specs.Candidates.{candidateSet}
 use Rattle.model.specs.Choice.{Choice, Admissible}
-use Rattle.verdicts.specs.Refusals.{offerBad, offerTrials, cheapestTrials, offeredTrials, Rooms, cheapestPlanTrials, offeredPlanTrials}
+use Rattle.verdicts.specs.Refusals.{offerBad, offerTrials, choiceTrials, choosingOf, cheapestTrials, offeredTrials, Rooms, cheapestPlanTrials, offeredPlanTrials}
 use Rattle.model.specs.Plan.{built, nameIn, holdersIn, inTurn, planRoom, keysRoom}
 use Rattle.run.specs.Run.{keyOf, holders}
 use Rattle.model.specs.Demand.{Assigned, FromCandidates}
+use Rattle.model.specs.User.{UserMay}
+use Rattle.verdicts.proofs.User.{choosing-accepted, passes-may}
 use Rattle.model.proofs.Weight.{d-there}
 use Rattle.model.proofs.Turns.{turn-same, turn-at}
 use Rattle.model.proofs.SamePlan.{Alike, key-same, holders-same, clean-same}
@@ -49,11 +51,13 @@ run-keys N sound c =
 
 pub demand3 : Demand3
 demand3 s h e c assigned =
-    let sound = accepted-promises s h e in
-    let exactly = runs-exactly (nightOf s) sound c assigned in
-    let same = each-candidate s h e c in (
+    let read = choosing-accepted s h e in
+    let sound = accepted-promises s h read in
+    let may = passes-may s h e in
+    let exactly = runs-exactly (nightOf s) sound may c assigned in
+    let same = each-candidate s h read c in (
       (λ run. same .1 (exactly .0 run), λ from. exactly .1 (same .0 from)),
-      λ from. (built-runs (nightOf s) sound c assigned (same .0 from), run-keys (nightOf s) sound c),
+      λ from. (built-runs (nightOf s) sound may c assigned (same .0 from), run-keys (nightOf s) sound c),
     )
 
 -- with the sets that are answered
@@ -65,7 +69,7 @@ by-answers s h e c assigned answer said =
     )
 
 -- what stands in the rooms
-module _ (s : List ℕ) (sound : Promised (nightOf s)) (c : Choice) (A : Admissible (nightOf s) c) (subjects : List ℕ)
+module _ (s : List ℕ) (sound : Promised (nightOf s)) (may : UserMay (nightOf s)) (c : Choice) (A : Admissible (nightOf s) c) (subjects : List ℕ)
     (chosen : (i : ℕ) → i < nightOf s .header .nodes → c i ≡ getD subjects i 0) (before after : Rooms) (filled : Filled (nightOf s) c before after) where
   abbrev N : Night
   N = nightOf s
@@ -87,15 +91,21 @@ module _ (s : List ℕ) (sound : Promised (nightOf s)) (c : Choice) (A : Admissi
   rooms-run : RunsWith s subjects after
   rooms-run =
       record {
-        clean = clean-same N (built N c) (planIn subjects (after .plan)) alike sound (built-runs N sound c assigned (A .step));
+        clean = clean-same N (built N c) (planIn subjects (after .plan)) alike sound (built-runs N sound may c assigned (A .step));
         names = λ k l. keyed k l .0 ∙ keys-agree N sound (built N c) k .0 ∙ key-same N (built N c) (planIn subjects (after .plan)) alike k;
-        holding = λ k l. keyed k l .1 ∙ keys-agree N sound (built N c) k .1 ∙ holders-same N (built N c) (planIn subjects (after .plan)) alike k;
+        holding = λ k l. keyed k l .1 ∙ keys-agree N sound (built N c) k .1 ∙ holders-same N (built N c) (planIn subjects (after .plan)) alike sound k;
       }
 
--- a file whose trials passed is accepted
-accepted : (s : List ℕ) → Passes (trials s) → Promised (nightOf s)
-unfolding checkOf
-accepted s h = accepted-promises s (headerOf s) (passes-accepts (trials s) (headerOf s) h)
+-- a file passes 1 to 11 and 17 where the trials that a choice begins with pass
+begun : (s : List ℕ) → Passes (choiceTrials s) → choosingOf s ≡ answers (headerOf s)
+unfolding choosingOf
+begun s h = passes-accepts (choiceTrials s) (headerOf s) h
+
+sound-of : (s : List ℕ) → Passes (choiceTrials s) → Promised (nightOf s)
+sound-of s h = accepted-promises s (headerOf s) (choosing-accepted s (headerOf s) (begun s h))
+
+may-of : (s : List ℕ) → Passes (choiceTrials s) → UserMay (nightOf s)
+may-of s h = passes-may s (headerOf s) (begun s h)
 
 -- an offer whose trials passed has no bad subject
 offer-passed : (N : Night) (offer : List ℕ) → Passes (offerTrials N offer) → (k : ℕ) → k < N .header .nodes → offerBad N offer k ≡ false
@@ -105,14 +115,14 @@ offer-passed N offer h k l = passes-row (λ i. trial (offerBad N offer i) 14 i �
 pub cheapest-runs : CheapestRuns
 unfolding cheapestPlanTrials cheapestTrials
 cheapest-runs s before after total steps said =
-    let passes = passes-append (trials s) _ (passes-append (cheapestTrials s) _ (passed (cheapestPlanTrials s before) tt tt (said .0) .0) .0) .0 in
+    let passes = passes-append (choiceTrials s) _ (passes-append (cheapestTrials s) _ (passed (cheapestPlanTrials s before) tt tt (said .0) .0) .0) .0 in
     let n = nightOf s .header .nodes in
     let c = said .1 .subject in
-    rooms-run s (accepted s passes) c (said .1 .least .admissible) (after .choice)
+    rooms-run s (sound-of s passes) (may-of s passes) c (said .1 .least .admissible) (after .choice)
     (λ i l. sym (rw (said .1 .choice) (List·getD-append (each n c) (drop n (before .choice)) 0 i (rw (each-length c n) l) ∙ each-at c 0 i n l))) before after (said .1 .filled)
 
 pub offered-runs : OfferedRuns
 unfolding offeredPlanTrials offeredTrials
 offered-runs s offer before after total said =
-    let passes = passes-append (trials s) _ (passes-append (offeredTrials s offer) _ (passed (offeredPlanTrials s offer before) tt tt (said .0) .0) .0) in
-    rooms-run s (accepted s (passes .0)) (λ i. getD offer i 0) (offer-admissible (nightOf s) offer (offer-passed (nightOf s) offer (passes .1))) offer (λ i l. refl) before after (said .2)
+    let passes = passes-append (choiceTrials s) _ (passes-append (offeredTrials s offer) _ (passed (offeredPlanTrials s offer before) tt tt (said .0) .0) .0) in
+    rooms-run s (sound-of s (passes .0)) (may-of s (passes .0)) (λ i. getD offer i 0) (offer-admissible (nightOf s) offer (offer-passed (nightOf s) offer (passes .1))) offer (λ i l. refl) before after (said .2)

@@ -15,6 +15,7 @@ use Rattle.laws.specs.Trials.{answers}
 use Rattle.laws.specs.Upwards.{upwards}
 use Rattle.sets.specs.Sets.{bit, member, union, meet, minus, within, single, size, unions}
 use Rattle.night.specs.declared.Header.{Header}
+use Rattle.night.specs.Versions.{delivers, headerLength}
 use Rattle.night.specs.Night.{Night, relationOf, grantOf, nodeOf, stepPrice, linkPrice}
 use Rattle.night.specs.Kinds.{usesLeft, usesRight, reads, readTogether, visibleAfter}
 use Rattle.night.specs.Promised.{Promised}
@@ -35,7 +36,7 @@ use Rattle.trials.proofs.Computed.{file-verdicts}
 use Rattle.choosing.proofs.Answered.{none-below, all-have}
 use Rattle.planning.specs.Answers.{candidatesOf}
 use Rattle.planning.proofs.Answered.{candidates-accepted}
-use Rattle.demands.specs.SampleNight.{sampleNight}
+use Rattle.demands.specs.SampleNight.{sampleIn, sampleNight}
 use Rattle.demands.specs.Marked.{conditions, Marked}
 
 -- what is computed: the values of the bytes; the candidates of steps, the steps, that every step has a candidate, and the least cost of the last node; and
@@ -53,12 +54,12 @@ computed :
     × (member (sealedOf sampleNight 1) 2 ≡ true)
     × (member (clearOf sampleNight 1) 2 ≡ false)
     × (member (viewOf sampleNight anySubject 0 .clear) 2 ≡ true)
-unfolding anyOf be first somewhere upwards bit member union meet minus within single unions grantOf nodeOf usesRight reads readTogether visibleAfter isFor grantFor viewOf clearOf sealedOf grantsFrom nodesFrom stepPricesFrom linkPricesFrom headerOf relationAt grantAt nodeAt pricesAt nightIn gathered tie merged leastView tests ties joined result leafTable stepTable tableStep tables tableOf clearOffends sealedOffends tiedOffends may mayTake isCandidate candidateSet sample sampleNight ones size sum usesLeft weight stepsAt steps relationOf stepPrice linkPrice subjectsOf better handedOn bestOf bestChild rowEntry rowStep costRows bestLast withoutCandidate
+unfolding delivers headerLength anyOf be first somewhere upwards bit member union meet minus within single unions grantOf nodeOf usesRight reads readTogether visibleAfter isFor grantFor viewOf clearOf sealedOf grantsFrom nodesFrom stepPricesFrom linkPricesFrom headerOf relationAt grantAt nodeAt pricesAt nightIn gathered tie merged leastView tests ties joined result leafTable stepTable tableStep tables tableOf clearOffends sealedOffends tiedOffends may mayTake isCandidate candidateSet sample sampleIn ones size sum usesLeft weight stepsAt steps relationOf stepPrice linkPrice subjectsOf better handedOn bestOf bestChild rowEntry rowStep costRows bestLast withoutCandidate
 computed = (refl, refl, refl, refl, refl, refl, refl, refl, refl, refl, refl, refl)
 
 -- and so of the bytes, which reading accepts with this header
 abbrev head : Header
-head = record { version = 1; subjects = 6; relations = 2; attributes = 6; nodes = 6; grants = 14; steps = 76 }
+head = record { version = 1; subjects = 6; relations = 2; attributes = 6; nodes = 6; grants = 14; steps = 76; user = 0 }
 
 of-bytes : (i set : ℕ) → candidateSet sampleNight i ≡ set → candidatesOf sample i ≡ answers set
 of-bytes i set e =
@@ -70,7 +71,7 @@ pub sound : Promised sampleNight
 sound = rw (computed .0) at (accepted-promises sample head (file-verdicts .sample-accepted))
 
 have : AllHave sampleNight
-unfolding sampleNight
+unfolding sampleIn
 have = all-have sampleNight sound (none-below (withoutCandidate sampleNight) 6 6 (sym (computed .3)) (omega arith))
 
 total-of : (c : Choice) → Least sampleNight c → total sampleNight c ≡ 14

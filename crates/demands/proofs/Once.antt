@@ -3,21 +3,23 @@ use Prim.Native.Nat.{ℕ, _<_}
 use mathlib.Core.Path.{_≡_, refl, sym, ap, _∙_}
 use mathlib.Core.List.{List}
 use Rattle.laws.specs.Trials.{Trial, Says, answers, refuses, verdict}
-use Rattle.laws.proofs.Trials.{never}
+use Rattle.laws.proofs.Trials.{never, passed, passes-accepts, passes-append}
 use Rattle.laws.proofs.Upwards.{each-same}
 use Rattle.night.specs.Night.{Night}
+use Rattle.night.specs.Promised.{Promised}
 use Rattle.layout.specs.Layout.{nightOf}
 use Rattle.model.specs.Choice.{Choice}
 use Rattle.model.specs.Plan.{built}
 use Rattle.model.proofs.Once.{least-total, least-once}
 use Rattle.model.proofs.SamePlan.{built-alike, plan-same, keys-same}
 use Rattle.planning.specs.Answers.{Filled, CheapestFilled}
+use Rattle.planning.proofs.Answered.{chosen-promises}
 use Rattle.planning.specs.declared.CheapestPlan.{CheapestPlan}
 use Rattle.planning.specs.declared.CheapestPlan.the-variants.{Cheapest, Refused as NoCheapest}
 use Rattle.planning.specs.declared.OfferedPlan.the-variants.{Offered, Refused as NoOffered}
 use Rattle.planning.specs.declared.OfferedPlan.{OfferedPlan}
 use Rattle.tollburrow.specs.Codes.{cheapestCode, offeredCode, totalOr, stepsOr, costOr}
-use Rattle.verdicts.specs.Refusals.{Rooms, cheapestPlanTrials, offeredPlanTrials}
+use Rattle.verdicts.specs.Refusals.{Rooms, cheapestTrials, cheapestPlanTrials, offeredPlanTrials}
 use Rattle.demands.specs.Once.{CheapestPlanOnce, OfferedPlanOnce, CheapestOutOnce, OfferedOutOnce}
 
 -- a row of trials either passes or refuses, and with one number and place
@@ -34,24 +36,29 @@ same-rooms : (x y : Rooms) → x .choice ≡ y .choice → x .plan ≡ y .plan �
 same-rooms x y e f g i = record { choice = e i; plan = f i; keys = g i }
 
 -- plan and keys filled for choices that are the same at every node
-filled-same : (N : Night) (c d : Choice) (before x y : Rooms) → ((i : ℕ) → i < N .header .nodes → c i ≡ d i) → Filled N c before x → Filled N d before y
+filled-same : (N : Night) → Promised N → (c d : Choice) (before x y : Rooms) → ((i : ℕ) → i < N .header .nodes → c i ≡ d i) → Filled N c before x → Filled N d before y
     → (x .plan ≡ y .plan) × (x .keys ≡ y .keys)
-filled-same N c d before x y h u v =
+filled-same N sound c d before x y h u v =
     let alike = built-alike N c d h in
-    (u .plan ∙ rw (plan-same N (built N c) (built N d) alike) (sym (v .plan)), u .keys ∙ rw (keys-same N (built N c) (built N d) alike) (sym (v .keys)))
+    (u .plan ∙ rw (plan-same N (built N c) (built N d) alike) (sym (v .plan)), u .keys ∙ rw (keys-same N (built N c) (built N d) alike sound) (sym (v .keys)))
 
 -- the cheapest choice filled in
-both-filled : (N : Night) (before x y : Rooms) (t k t′ k′ : ℕ) → CheapestFilled N before x t k → CheapestFilled N before y t′ k′ → (Cheapest t k ≡ Cheapest t′ k′) × (x ≡ y)
-both-filled N before x y t k t′ k′ u v =
+both-filled : (N : Night) → Promised N → (before x y : Rooms) (t k t′ k′ : ℕ) → CheapestFilled N before x t k → CheapestFilled N before y t′ k′ → (Cheapest t k ≡ Cheapest t′ k′) × (x ≡ y)
+both-filled N sound before x y t k t′ k′ u v =
     let same = least-once N (u .subject) (v .subject) (u .least) (v .least) in
     let total : t ≡ t′ = u .its-total ∙ least-total N (u .subject) (v .subject) (u .least) (v .least) ∙ sym (v .its-total) in
     let steps : k ≡ k′ = u .its-steps ∙ sym (v .its-steps) in
     let choice : x .choice ≡ y .choice = u .choice ∙ rw (each-same (u .subject) (v .subject) (N .header .nodes) same) (sym (v .choice)) in
-    let filled = filled-same N (u .subject) (v .subject) before x y same (u .filled) (v .filled) in
+    let filled = filled-same N sound (u .subject) (v .subject) before x y same (u .filled) (v .filled) in
     (rw (total, steps) refl, same-rooms x y choice (filled .0) (filled .1))
 
+-- what reading promises of a file whose cheapest plan is answered
+answered-sound : (s : List ℕ) (rooms : Rooms) → verdict (cheapestPlanTrials s rooms) (tt {0}) ≡ answers tt → Promised (nightOf s)
+unfolding cheapestPlanTrials
+answered-sound s rooms e = chosen-promises s (passes-accepts (cheapestTrials s) (tt {0}) (passes-append (cheapestTrials s) _ (passed (cheapestPlanTrials s rooms) tt tt e .0) .0))
+
 pub cheapest-once : CheapestPlanOnce
-cheapest-once s before x y (Cheapest t k) (Cheapest t′ k′) u v = both-filled (nightOf s) before x y t k t′ k′ (u .1) (v .1)
+cheapest-once s before x y (Cheapest t k) (Cheapest t′ k′) u v = both-filled (nightOf s) (answered-sound s before (u .0)) before x y t k t′ k′ (u .1) (v .1)
 cheapest-once s before x y (Cheapest t k) (NoCheapest n p) u v = absurd (not-both (cheapestPlanTrials s before) n p (u .0) (v .0))
 cheapest-once s before x y (NoCheapest n p) (Cheapest t k) u v = absurd (not-both (cheapestPlanTrials s before) n p (v .0) (u .0))
 cheapest-once s before x y (NoCheapest n p) (NoCheapest m q) u v =

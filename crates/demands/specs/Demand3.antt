@@ -1,5 +1,6 @@
--- Demand 3: for every accepted file and every choice with the owners at the leaves, some openings and sealings run clean exactly when each
--- chosen subject is a candidate; and then the plan that is built runs clean, under the keys that are given out.
+-- Demand 3: for every file that passes 1 to 11 and 17 and every choice with the owners at the leaves, some openings and sealings run clean exactly
+-- when each chosen subject is a candidate; and then the plan that is built runs clean, under the keys that are given out. In a version with a user the
+-- run ends with the delivery, and 17 is asked; version 1 has neither.
 use Prim.Native.Nat.{ℕ, _+_, _*_, _<_}
 use mathlib.Core.Path.{_≡_}
 use mathlib.Core.List.{List}
@@ -10,7 +11,6 @@ use Rattle.sets.specs.Sets.{In}
 use Rattle.night.specs.declared.Header.{Header}
 use Rattle.night.specs.Night.{Night, nodeOf}
 use Rattle.layout.specs.Layout.{nightOf}
-use Rattle.trials.specs.Trials.{checkOf}
 use Rattle.model.specs.Choice.{Choice}
 use Rattle.run.specs.Keys.{Plan}
 use Rattle.model.specs.Plan.{built, inTurn, keysRoom}
@@ -20,7 +20,7 @@ use Rattle.planning.specs.declared.CandidateSet.{CandidateSet}
 use Rattle.planning.specs.declared.CandidateSet.the-variants.{Among}
 use Rattle.planning.specs.declared.CheapestPlan.the-variants.{Cheapest}
 use Rattle.planning.specs.declared.OfferedPlan.the-variants.{Offered}
-use Rattle.verdicts.specs.Refusals.{Rooms}
+use Rattle.verdicts.specs.Refusals.{Rooms, choosingOf}
 use Rattle.planning.specs.Answers.{candidatesSaid, candidatesOf, CheapestSays, OfferedSays}
 
 -- each step's subject is a member of the set that `candidates` promises
@@ -35,7 +35,7 @@ RunKeys N p = keysRoom N p ≡ inTurn (keyOf N p) (holders N p) (N .header .attr
 
 abbrev pub Demand3 : Type 0
 Demand3 =
-    (s : List ℕ) (h : Header) → checkOf s ≡ answers h → (c : Choice) → Assigned (nightOf s) c
+    (s : List ℕ) (h : Header) → choosingOf s ≡ answers h → (c : Choice) → Assigned (nightOf s) c
     → (((opens : ℕ → ℕ) × (seals : ℕ → ℕ) × Clean (nightOf s) (record { subject = c; opens = opens; seals = seals })) ↔ EachCandidate s c)
     × (EachCandidate s c
     → Clean (nightOf s) (built (nightOf s) c)
@@ -44,7 +44,7 @@ Demand3 =
 -- the first part with the very sets that `candidates` answers
 abbrev pub ByAnswers : Type 0
 ByAnswers =
-    (s : List ℕ) (h : Header) → checkOf s ≡ answers h → (c : Choice) → Assigned (nightOf s) c
+    (s : List ℕ) (h : Header) → choosingOf s ≡ answers h → (c : Choice) → Assigned (nightOf s) c
     → (answer : ℕ → CandidateSet) → ((i : ℕ) → i < nightOf s .header .nodes → candidatesSaid (answer i) ≡ candidatesOf s i)
     → ((opens : ℕ → ℕ) × (seals : ℕ → ℕ) × Clean (nightOf s) (record { subject = c; opens = opens; seals = seals }))
     ↔ ((i set : ℕ) → i < nightOf s .header .nodes → (nodeOf (nightOf s) i .kind ≡ 0 → ⊥) → answer i ≡ Among set → In (c i) set)

@@ -1,12 +1,13 @@
 -- Document 01's sample night as values, written by samples/night.py.
+use Prim.Native.Nat.{ℕ}
 use mathlib.Core.List.{[], _∷_}
 use Rattle.night.specs.Night.{Night}
 
--- what samples/night.axp holds
-unfoldable pub sampleNight : Night
-sampleNight =
+-- its values in a version, with a user
+unfoldable pub sampleIn : ℕ → ℕ → Night
+sampleIn version user =
     record {
-      header = record { version = 1; subjects = 6; relations = 2; attributes = 6; nodes = 6; grants = 14; steps = 76 };
+      header = record { version = version; subjects = 6; relations = 2; attributes = 6; nodes = 6; grants = 14; steps = 76; user = user };
       relations =
           record { owner = 0; set = 15 }
           ∷ record { owner = 1; set = 48 }
@@ -52,3 +53,11 @@ sampleNight =
           ∷ (1 ∷ 1 ∷ 1 ∷ 1 ∷ 1 ∷ 0 ∷ [])
           ∷ [];
     }
+
+-- what samples/night.axp holds
+abbrev pub sampleNight : Night
+sampleNight = sampleIn 1 0
+
+-- what samples/night2.axp holds: U, subject 2, is the user
+abbrev pub sampleUser : Night
+sampleUser = sampleIn 2 2

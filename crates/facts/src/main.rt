@@ -1,13 +1,14 @@
-// Runs the figures of document 01 that are not marked as proved, and ticket 2026-01's. Standard input holds the cases one after the other: a byte
-// with the length of the name, the name; the entry that is asked, a byte; the lengths of the rooms for choice, plan and keys, a byte each; a byte
-// with the length of the offer, the offer; two bytes with the length of the file, the file. What the entry says of each is printed in one line.
+// Runs the figures of document 01 that are not marked as proved, and those of tickets 2026-01 and 2026-02. Standard input holds the cases one
+// after the other: a byte with the length of the name, the name; the entry that is asked, a byte; the lengths of the rooms for choice, plan and
+// keys, a byte each; a byte with the length of the offer, the offer; two bytes with the length of the file, the file. What the entry says of each
+// is printed in one line.
 mod entries;
 
 ghost use Prim.Native.Nat.{_<_};
 ghost use lib.ListN.{length};
 
 fn main() {
-    let mut input = [0u8; 262144];
+    let mut input = [0u8; 524288];
     let n = io::read_full(0, &mut input);
     run(&input[..n]);
 }

@@ -1,6 +1,9 @@
-// The built plan's openings and sealings, and the tied sets that group its keys.
+// The built plan's openings and sealings, the root's table, and the delivery.
+use crate::keys::Delivery;
 use layout::values;
+use model::Table;
 use night::Header;
+use night::versions;
 use tables::steps;
 ghost use mathlib.Core.Path.{_≡_};
 ghost use Prim.Native.Nat.{_<_, _+_, _-_};
@@ -10,7 +13,7 @@ ghost use Rattle.laws.specs.Upwards.{each};
 ghost use Rattle.layout.specs.Layout.{nightIn};
 ghost use Rattle.night.specs.Night.{nodeOf};
 ghost use Rattle.model.specs.Tables.{tableOf};
-ghost use Rattle.keying.specs.Parts.{partAt};
+ghost use Rattle.keying.specs.Parts.{partAt, deliveryOf};
 
 // A part of the built plan.
 enum Part {
@@ -87,11 +90,23 @@ fn root(h: Header) -> usize
     n - 1
 }
 
-// The root's tied sets: for each attribute the whole set that it stands in.
-pub fn root_tied(file: &[u8], h: Header) -> [u64; 64]
-    ensures { λ r. ⌜ r ≡ tableOf (nightIn (now (file .entry)) h) (h .nodes - 1) .tied ⌝ }
+// The root's table: its tied sets group the keys, and what it has sealed is delivered so.
+pub fn root_table(file: &[u8], h: Header) -> Table
+    ensures { λ r. ⌜ r ≡ tableOf (nightIn (now (file .entry)) h) (h .nodes - 1) ⌝ }
 {
-    let t = steps::table_of(file, h, root(h));
-    let tied = t.tied;
-    tied
+    steps::table_of(file, h, root(h))
+}
+
+// The delivery where `sealed` leaves the root so: the user opens it, and nobody opens anything in a version without a user.
+pub fn delivery(h: Header, sealed: u64) -> Delivery
+    ensures { λ r. ⌜ r ≡ deliveryOf h sealed ⌝ }
+{
+    let user = h.user;
+    if versions::delivers(h.version) {
+        return Delivery {
+            user,
+            opened: sealed,
+        };
+    }
+    Delivery { user, opened: 0 }
 }

@@ -10,7 +10,13 @@ ghost use Rattle.laws.specs.Upwards.{each};
 ghost use Rattle.sets.specs.Sets.{member, union, meet, apart, single};
 ghost use Rattle.night.specs.Kinds.{attribute};
 ghost use Rattle.run.specs.Keys.{everSealed, keyName, holdersOf, keyHolders};
-ghost use Rattle.keying.specs.Nodes.{nodeEvents};
+ghost use Rattle.keying.specs.Nodes.{nodeEvents, eventsTo};
+
+// The delivery: the user, and what it opens.
+pub struct Delivery {
+    pub user: u8,
+    pub opened: u64,
+}
 
 // What stands at node i, nothing past the end.
 fn set_at(sets: [u64; 64], i: u8) -> u64
@@ -90,6 +96,23 @@ fn holders_of(choice: &[u8], opens: [u64; 64], seals: [u64; 64], n: u8, group: u
     all
 }
 
+// The same with the user, where it opens one of the group at the delivery.
+fn holders_with(
+    choice: &[u8],
+    opens: [u64; 64],
+    seals: [u64; 64],
+    n: u8,
+    d: Delivery,
+    group: u64,
+) -> u16
+    ensures { λ r. ⌜ r ≡ holdersOf (eventsTo (now (choice .entry)) opens seals n d) group ⌝ }
+{
+    subjects::union(
+        holders_of(choice, opens, seals, n, group),
+        as_holder(group, d.user, d.opened, 0),
+    )
+}
+
 // The name of each attribute's key, 64 where it is never sealed, whoever runs the nodes and whatever they open.
 pub fn names(tied: [u64; 64], seals: [u64; 64], n: u8) -> [u64; 64]
     ensures { λ r. ⌜ ((subjects opens : List ℕ) → r ≡ each 64 (keyName (λ j. getD tied j 0) (nodeEvents subjects opens seals n))) ⌝ }
@@ -104,21 +127,23 @@ pub fn names(tied: [u64; 64], seals: [u64; 64], n: u8) -> [u64; 64]
     all
 }
 
-// The holders of each attribute's key, none where it is never sealed.
+// The holders of each attribute's key, none where it is never sealed: who sealed or opened it, the user at the delivery too.
 pub fn holders(
     tied: [u64; 64],
     choice: &[u8],
     opens: [u64; 64],
     seals: [u64; 64],
     n: u8,
+    d: Delivery,
 ) -> [u64; 64]
-    ensures { λ r. ⌜ r ≡ each 64 (keyHolders (λ j. getD tied j 0) (nodeEvents (now (choice .entry)) opens seals n)) ⌝ }
+    ensures { λ r. ⌜ r ≡ each 64 (keyHolders (λ j. getD tied j 0) (eventsTo (now (choice .entry)) opens seals n d)) ⌝ }
 {
     let sealed = ever_sealed(seals, n);
     let mut all = [0u64; 64];
     let mut k: usize = 0;
     while k < 64 {
-        all[k] = holders_of(choice, opens, seals, n, group_of(tied, sealed, k as u8)) as u64;
+        let group = group_of(tied, sealed, k as u8);
+        all[k] = holders_with(choice, opens, seals, n, d, group) as u64;
         k += 1;
     }
     all

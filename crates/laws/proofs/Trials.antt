@@ -176,6 +176,10 @@ all-refused Q (t ∷ ts) a n p q e = go (t .fails) e (all-refused Q ts a n p (q 
         rw (← number, ← place) (q .0)
     go false h more = more h
 
+pub all-map : (Q R : ℕ → ℕ → Type 0) → ((n p : ℕ) → Q n p → R n p) → (ts : List Trial) → AllTrials Q ts → AllTrials R ts
+all-map Q R f [] q = tt
+all-map Q R f (t ∷ ts) q = (f (t .number) (t .place) (q .0), all-map Q R f ts (q .1))
+
 pub all-append : (Q : ℕ → ℕ → Type 0) (xs ys : List Trial) → AllTrials Q xs → AllTrials Q ys → AllTrials Q (xs ++ ys)
 all-append Q [] ys h g = g
 all-append Q (t ∷ xs) ys h g = (h .0, all-append Q xs ys (h .1) g)

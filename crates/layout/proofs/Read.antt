@@ -4,20 +4,22 @@ use mathlib.Core.Path.{_≡_, _∙_, ap, sym}
 use mathlib.Core.List.{List}
 use lib.ListN.{getD}
 use Rattle.laws.specs.BigEndian.{be}
+use Rattle.laws.specs.Choose.{if_then_else_}
 use Rattle.laws.proofs.BigEndian.{be-more}
 use Rattle.night.specs.declared.Header.{Header}
 use Rattle.night.specs.declared.Relation.{Relation}
 use Rattle.night.specs.declared.Grant.{Grant}
 use Rattle.night.specs.declared.Node.{Node}
-use Rattle.night.specs.Night.{grantOf, nodeOf, stepPrice, linkPrice}
+use Rattle.night.specs.Versions.{delivers, headerLength}
+use Rattle.night.specs.Night.{relationOf, grantOf, nodeOf, stepPrice, linkPrice}
 use Rattle.layout.specs.Layout.{grantsFrom, nodesFrom, stepPricesFrom, headerOf, relationAt, grantAt, nodeAt, nthPrice, nightIn}
-use Rattle.layout.proofs.Sections.{grant-at, node-at, price-in, step-price-in, link-price-in}
+use Rattle.layout.proofs.Sections.{relation-at, grant-at, node-at, price-in, step-price-in, link-price-in}
 
 -- a number with one byte more
 pub number-turn : {v b w : ℕ} (s : List ℕ) (at i : ℕ) → v ≡ be s at i → b ≡ getD s (at + i) 0 → w ≡ b → v * 256 + w ≡ be s at (i + 1)
 number-turn s at i number byte wide = (λ k. number k * 256 + (wide ∙ byte) k) ∙ sym (be-more s at i)
 
-pub header-made : {v p r a n g m : ℕ} (s : List ℕ)
+pub header-made : {v p r a n g m u : ℕ} (s : List ℕ)
     → v ≡ be s 3 2
     → p ≡ getD s 5 0
     → r ≡ getD s 6 0
@@ -25,10 +27,21 @@ pub header-made : {v p r a n g m : ℕ} (s : List ℕ)
     → n ≡ getD s 8 0
     → g ≡ be s 9 2
     → m ≡ be s 11 4
-    → _≡_ {A = Header} (record { version = v; subjects = p; relations = r; attributes = a; nodes = n; grants = g; steps = m }) (headerOf s)
+    → u ≡ (if delivers v then getD s 15 0 else 0)
+    → _≡_ {A = Header} (record { version = v; subjects = p; relations = r; attributes = a; nodes = n; grants = g; steps = m; user = u }) (headerOf s)
 unfolding headerOf
-header-made s version subjects relations attributes nodes grants steps =
-    λ i. record { version = version i; subjects = subjects i; relations = relations i; attributes = attributes i; nodes = nodes i; grants = grants i; steps = steps i }
+header-made s version subjects relations attributes nodes grants steps user =
+    let there = user ∙ ap (λ (n : ℕ). if delivers n then getD s 15 0 else 0) version in
+    λ i. record {
+      version = version i;
+      subjects = subjects i;
+      relations = relations i;
+      attributes = attributes i;
+      nodes = nodes i;
+      grants = grants i;
+      steps = steps i;
+      user = there i;
+    }
 
 pub relation-made : {o m : ℕ} (s : List ℕ) (at : ℕ) → o ≡ getD s at 0 → m ≡ be s (at + 1) 8 → _≡_ {A = Relation} (record { owner = o; set = m }) (relationAt s at)
 unfolding relationAt
@@ -74,6 +87,9 @@ node-made s at kind left right x y spare1 spare2 spare3 set needed size =
 
 -- at a number of its section
 module _ (s : List ℕ) (h : Header) (i : ℕ) where
+  pub relation-read : {from : ℕ} {v : Relation} → i < h .relations → from ≡ headerLength (h .version) → v ≡ relationAt s (from + 9 * i) → v ≡ relationOf (nightIn s h) i
+  relation-read l from there = there ∙ ap (λ (g : ℕ). relationAt s (g + 9 * i)) from ∙ sym (relation-at s h i l)
+
   pub grant-read : {from : ℕ} {v : Grant} → i < h .grants → from ≡ grantsFrom h → v ≡ grantAt s (from + 18 * i) → v ≡ grantOf (nightIn s h) i
   grant-read l from there = there ∙ ap (λ (g : ℕ). grantAt s (g + 18 * i)) from ∙ sym (grant-at s h i l)
 

@@ -12,6 +12,7 @@ use Rattle.laws.specs.BigEndian.{be}
 use Rattle.laws.specs.Upwards.{each}
 use Rattle.laws.proofs.Upwards.{each-at, each-past}
 use Rattle.night.specs.declared.Header.{Header}
+use Rattle.night.specs.Versions.{headerLength}
 use Rattle.night.specs.Night.{relationOf, grantOf, nodeOf, stepPrice, linkPrice, noRelation, noGrant, noNode}
 use Rattle.layout.specs.Layout.{grantsFrom, nodesFrom, stepPricesFrom, linkPricesFrom, relationAt, grantAt, nodeAt, pricesAt, nthPrice, nightIn}
 
@@ -59,13 +60,13 @@ module _ (s : List ℕ) (h : Header) (i : ℕ) where
   price-past l = each-past (λ k. be s (stepPricesFrom h + 4 * k) 4) 0 i (h .nodes * h .subjects + h .subjects * h .subjects) l
 
 module _ (s : List ℕ) (h : Header) (i : ℕ) where
-  pub relation-at : i < h .relations → relationOf (nightIn s h) i ≡ relationAt s (15 + 9 * i)
+  pub relation-at : i < h .relations → relationOf (nightIn s h) i ≡ relationAt s (headerLength (h .version) + 9 * i)
   unfolding relationOf nightIn
-  relation-at l = each-at (λ k. relationAt s (15 + 9 * k)) noRelation i (h .relations) l
+  relation-at l = each-at (λ k. relationAt s (headerLength (h .version) + 9 * k)) noRelation i (h .relations) l
 
   pub relation-past : h .relations ≤ i → relationOf (nightIn s h) i ≡ noRelation
   unfolding relationOf nightIn
-  relation-past l = each-past (λ k. relationAt s (15 + 9 * k)) noRelation i (h .relations) l
+  relation-past l = each-past (λ k. relationAt s (headerLength (h .version) + 9 * k)) noRelation i (h .relations) l
 
   pub grant-at : i < h .grants → grantOf (nightIn s h) i ≡ grantAt s (grantsFrom h + 18 * i)
   unfolding grantOf nightIn

@@ -3,25 +3,14 @@ use Prim.Native.Nat.{ℕ, _+_, _*_}
 use mathlib.Core.List.{List}
 use lib.ListN.{getD}
 use Rattle.laws.specs.BigEndian.{be}
+use Rattle.laws.specs.Choose.{if_then_else_}
 use Rattle.laws.specs.Upwards.{each}
 use Rattle.night.specs.declared.Header.{Header}
 use Rattle.night.specs.declared.Relation.{Relation}
 use Rattle.night.specs.declared.Grant.{Grant}
 use Rattle.night.specs.declared.Node.{Node}
+use Rattle.night.specs.Versions.{delivers, headerLength, relationLength, grantLength, nodeLength}
 use Rattle.night.specs.Night.{Night}
-
--- lengths of the header and of each record, by version
-abbrev pub headerLength : ℕ → ℕ
-headerLength version = 15
-
-abbrev pub relationLength : ℕ → ℕ
-relationLength version = 9
-
-abbrev pub grantLength : ℕ → ℕ
-grantLength version = 18
-
-abbrev pub nodeLength : ℕ → ℕ
-nodeLength version = 28
 
 -- where each section starts, and where the last one ends
 unfoldable pub grantsFrom : Header → ℕ
@@ -39,7 +28,7 @@ linkPricesFrom h = stepPricesFrom h + 4 * (h .nodes * h .subjects)
 unfoldable pub fileLength : Header → ℕ
 fileLength h = linkPricesFrom h + 4 * (h .subjects * h .subjects)
 
--- the header's values: after the mark, version, subjects, relations, attributes, nodes, grants, steps allowed
+-- the header's values: after the mark, version, subjects, relations, attributes, nodes, grants, steps allowed; and the user, 0 in a version without one
 unfoldable pub headerOf : List ℕ → Header
 headerOf s =
     record {
@@ -50,6 +39,7 @@ headerOf s =
       nodes = getD s 8 0;
       grants = be s 9 2;
       steps = be s 11 4;
+      user = if delivers (be s 3 2) then getD s 15 0 else 0;
     }
 
 -- a relation: owner, set

@@ -1,37 +1,29 @@
 // Where the sections of a plan file start.
 use night::Header;
+use night::versions;
 ghost use mathlib.Core.Path.{_≡_};
 ghost use Prim.Native.Nat.{_<_, _+_, _*_};
 ghost use Rattle.layout.specs.Layout.{grantsFrom, nodesFrom, stepPricesFrom, linkPricesFrom, fileLength};
-
-// Lengths of the header and of each record.
-pub const HEADER_LENGTH: usize = 15;
-
-pub const RELATION_LENGTH: usize = 9;
-
-pub const GRANT_LENGTH: usize = 18;
-
-pub const NODE_LENGTH: usize = 28;
 
 // Where the grants start.
 pub fn grants_from(h: Header) -> usize
     ensures { λ r. ⌜ (r ≡ grantsFrom h) × (r < 2400) ⌝ }
 {
-    HEADER_LENGTH + RELATION_LENGTH * (h.relations as usize)
+    versions::header_length(h.version) + versions::RELATION_LENGTH * (h.relations as usize)
 }
 
 // Where the nodes start.
 pub fn nodes_from(h: Header) -> usize
     ensures { λ r. ⌜ (r ≡ nodesFrom h) × (r < 1_200_000) ⌝ }
 {
-    grants_from(h) + GRANT_LENGTH * (h.grants as usize)
+    grants_from(h) + versions::GRANT_LENGTH * (h.grants as usize)
 }
 
 // Where the step prices start.
 pub fn step_prices_from(h: Header) -> usize
     ensures { λ r. ⌜ (r ≡ stepPricesFrom h) × (r < 1_300_000) ⌝ }
 {
-    nodes_from(h) + NODE_LENGTH * (h.nodes as usize)
+    nodes_from(h) + versions::NODE_LENGTH * (h.nodes as usize)
 }
 
 // How many step prices there are.

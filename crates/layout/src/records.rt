@@ -5,6 +5,7 @@ use night::Grant;
 use night::Header;
 use night::Node;
 use night::Relation;
+use night::versions;
 ghost use mathlib.Core.Path.{_≡_};
 ghost use Prim.Native.Nat.{_<_, _^_};
 ghost use Rattle.layout.specs.Layout.{relationAt, grantAt, nodeAt, nightIn, nthPrice};
@@ -17,7 +18,10 @@ pub(crate) fn relation(i: usize, file: &[u8], h: Header) -> Relation
     if h.relations as usize <= i {
         return Relation { owner: 0, set: 0 };
     }
-    relation_at(file, places::HEADER_LENGTH + places::RELATION_LENGTH * i)
+    relation_at(
+        file,
+        versions::header_length(h.version) + versions::RELATION_LENGTH * i,
+    )
 }
 
 // Grant i, where the header is h.
@@ -32,7 +36,7 @@ pub(crate) fn grant(i: usize, file: &[u8], h: Header) -> Grant
             sealed: 0,
         };
     }
-    grant_at(file, places::grants_from(h) + places::GRANT_LENGTH * i)
+    grant_at(file, places::grants_from(h) + versions::GRANT_LENGTH * i)
 }
 
 // Node i, where the header is h.
@@ -42,7 +46,7 @@ pub(crate) fn node(i: usize, file: &[u8], h: Header) -> Node
     if h.nodes as usize <= i {
         return no_node();
     }
-    node_at(file, places::nodes_from(h) + places::NODE_LENGTH * i)
+    node_at(file, places::nodes_from(h) + versions::NODE_LENGTH * i)
 }
 
 // Price i of all, step prices first, where the header is h.

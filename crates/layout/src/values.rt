@@ -6,23 +6,39 @@ use night::Grant;
 use night::Header;
 use night::Node;
 use night::Relation;
+use night::versions;
 ghost use mathlib.Core.Path.{_≡_};
 ghost use Prim.Native.Nat.{_<_, _+_, _*_};
+ghost use Rattle.laws.specs.Choose.{if_then_else_};
+ghost use lib.ListN.{getD};
+ghost use Rattle.night.specs.Versions.{delivers};
 ghost use Rattle.layout.specs.Layout.{headerOf, nightIn, nthPrice};
 ghost use Rattle.night.specs.Night.{relationOf, grantOf, nodeOf, stepPrice, linkPrice};
+
+// The user's byte, in a version that has one.
+fn user(file: &[u8], version: u16) -> u8
+    ensures { λ r. ⌜ r ≡ (if delivers version then getD (now (file .entry)) 15 0 else 0) ⌝ }
+{
+    if versions::delivers(version) {
+        return bytes::byte(file, 15);
+    }
+    0
+}
 
 // The header's values.
 pub fn header(file: &[u8]) -> Header
     ensures { λ r. ⌜ r ≡ headerOf (now (file .entry)) ⌝ }
 {
+    let version = bytes::two(file, 3);
     Header {
-        version: bytes::two(file, 3),
+        version,
         subjects: bytes::byte(file, 5),
         relations: bytes::byte(file, 6),
         attributes: bytes::byte(file, 7),
         nodes: bytes::byte(file, 8),
         grants: bytes::two(file, 9),
         steps: bytes::four(file, 11),
+        user: user(file, version),
     }
 }
 

@@ -31,7 +31,7 @@ use Rattle.model.proofs.Built.{seals-clear, opens-needed}
 use Rattle.model.proofs.BuiltColumns.{leaves-ever, formed, came, needed-clear, other-sealed}
 
 -- what is read together is all that is read
-together-reads : (v : Node) (m : ℕ) → Some (λ t. m ≡ t) (readTogether v) → m ≡ reads v
+pub together-reads : (v : Node) (m : ℕ) → Some (λ t. m ≡ t) (readTogether v) → m ≡ reads v
 unfolding readTogether
 together-reads v m h = go (eqb (v .kind) 3) (eqb (v .kind) 5) (eqb (v .kind) 8) h
   where

@@ -13,6 +13,7 @@ use Rattle.model.proofs.May.{set-exactly}
 use Rattle.model.proofs.Kept.{left-step, right-step}
 use Rattle.model.proofs.RunCandidates.{run-candidates}
 use Rattle.model.proofs.BuiltFree.{built-free}
+use Rattle.model.proofs.User.{always-delivered}
 use Rattle.model.proofs.BuiltAllowed.{left-arrives-allowed, left-opened-allowed, right-arrives-allowed, right-opened-allowed, result-allowed}
 
 -- no table of the built plan is forbidden where each step's subject is one of its candidates
@@ -31,8 +32,12 @@ built-allowed N sound c from i l = go
 
 -- the built plan runs clean where each step's subject is one of its candidates
 pub built-runs : BuiltRuns
-built-runs N sound c assigned from = record { free = built-free N sound c assigned; allowed = built-allowed N sound c from }
+built-runs N sound may c assigned from =
+    record { free = built-free N sound c assigned; allowed = built-allowed N sound c from; delivery = λ d. always-delivered N sound may d (built N c) }
 
 -- some openings and sealings run clean exactly when each step's subject is one of its candidates
 pub runs-exactly : RunsExactly
-runs-exactly N sound c assigned = (λ w. run-candidates N _ sound assigned (w .2), λ from. (openings N (sealings N), sealings N, built-runs N sound c assigned from))
+runs-exactly N sound may c assigned = (
+  λ w. run-candidates N _ sound assigned (w .2),
+  λ from. (openings N (sealings N), sealings N, built-runs N sound may c assigned from),
+)

@@ -1,8 +1,8 @@
 -- The keys of the run: attributes that a chain of ties links share one, and who opens one of them holds it.
 use Prim.Native.Nat.{ℕ, zero, suc, _<_, _≤_}
-use mathlib.Core.Path.{_≡_, refl, sym, ap}
+use mathlib.Core.Path.{_≡_, refl, sym, ap, _∙_}
 use mathlib.Core.Bool.{Bool, true, false}
-use mathlib.Core.List.{List, [], _∷_}
+use mathlib.Core.List.{List, [], _∷_, _++_, append-nil}
 use mathlib.Core.Logic.{_⊎_, inl, inr, ⊎-elim, _↔_}
 use native.Mathlib.Nat.{eq-or-lt-of-le, le-of-suc-le-suc, lt-of-not-le}
 use native.Mathlib.Omega.{arith}
@@ -11,14 +11,17 @@ use Rattle.laws.specs.Upwards.{upwards, each}
 use Rattle.sets.specs.Sets.{In, union, apart, single, lowest}
 use Rattle.sets.proofs.Members.{same-members, in-member, in-union, in-meet, in-none, apart-exactly}
 use Rattle.sets.proofs.Words.{in-single, lowest-in, members-lt}
+use Rattle.night.specs.Versions.{delivers}
 use Rattle.night.specs.Night.{Night}
 use Rattle.night.specs.Kinds.{attribute}
 use Rattle.night.specs.Promised.{Promised}
 use Rattle.run.specs.Linked.{Chain}
 use Rattle.run.specs.Keys.{Plan, Event, events, everSealed, groupOf, keyName, holdersOf, keyHolders}
-use Rattle.run.specs.Run.{Some, reached, keyOf, holders}
+use Rattle.run.specs.Run.{Some, reached, keyOf, delivered, sealedIn, deliveries, allEvents, holders}
 use Rattle.model.proofs.Chains.{chain-join, chain-back, chain-low}
 use Rattle.model.proofs.PastLaws.{some-append}
+use Rattle.model.proofs.TableLaws.{union-none}
+use Rattle.model.proofs.Keyed.{ever-append}
 use Rattle.model.proofs.Reached.{TiedBelow, tied-low, reached-exactly}
 
 -- one of a list that says each entry by its number
@@ -117,7 +120,31 @@ module _ (N : Night) (sound : Promised N) (p : Plan) where
       small : (j : ℕ) → In j (attribute a) ⊎ Chain (TiedBelow N n) a j → j < 64
       small j = ⊎-elim (λ r. omega (arith, in-single 64 j a .0 r .0)) (λ r. chain-low (tied-low N sound) (chain-back r))
 
-  -- who opens it holds that key
+  -- the delivery seals nothing, so groups are as without it
+  same-ever : everSealed (allEvents N p) ≡ ever
+  unfolding allEvents deliveries everSealed
+  same-ever = go (delivers (N .header .version))
+    where
+      go : (b : Bool) → everSealed (events N p ++ (if b then record { subject = N .header .user; opened = sealedIn N (delivered N p); sealed = 0 } ∷ [] else [])) ≡ ever
+      go true = ever-append (events N p) _ ∙ rw (union-none 0) (union-none _)
+      go false = ap everSealed (append-nil (events N p))
+
+  same-group : (k : ℕ) → groupOf (reached N) (allEvents N p) k ≡ groupOf (reached N) (events N p) k
+  unfolding groupOf
+  same-group k = rw same-ever refl
+
+  -- who opens one of a group in some event holds that key
+  event-held : (q a : ℕ) → q < 16 → In a ever → a < 64 → Some (Opens q a) (allEvents N p) → In q (holders N p (keyOf N p a))
+  unfolding holders keyHolders
+  event-held q a few e low h = holds-some q a _ _ few (rw (same-group (keyOf N p a)) (key-group a e low)) h
+
   pub opens-held : (i a : ℕ) → i < n → p .subject i < 16 → In a (p .opens i) → In a ever → a < 64 → In (p .subject i) (holders N p (keyOf N p a))
-  unfolding holders keyHolders events
-  opens-held i a l few h e low = holds-some (p .subject i) a _ _ few (key-group a e low) (some-each (Opens (p .subject i) a) _ i n l (refl, h))
+  unfolding events allEvents
+  opens-held i a l few h e low =
+      event-held (p .subject i) a few e low (some-append (Opens (p .subject i) a) (events N p) (deliveries N p) .1 (inl (some-each (Opens (p .subject i) a) _ i n l (refl, h))))
+
+  -- so does the user who opens it at the delivery
+  pub user-held : (a : ℕ) → delivers (N .header .version) ≡ true → N .header .user < 16 → In a (sealedIn N (delivered N p)) → In a ever → a < 64 → In (N .header .user) (holders N p (keyOf N p a))
+  unfolding allEvents deliveries
+  user-held a d few h e low =
+      event-held (N .header .user) a few e low (some-append (Opens (N .header .user) a) (events N p) (deliveries N p) .1 (inr (rw d (inl (refl, h)))))

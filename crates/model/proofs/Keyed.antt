@@ -38,3 +38,13 @@ pub holders-each : (f : ℕ → Event) (group n : ℕ)
 unfolding holdersOf
 holders-each f group n =
     gathered-each (λ es. holdersOf es group) (λ e. if apart group (union (e .opened) (e .sealed)) then 0 else single 16 (e .subject)) refl (λ e es. refl) f n
+
+-- one list of events after another
+pub ever-append : (xs ys : List Event) → everSealed (xs ++ ys) ≡ union (everSealed xs) (everSealed ys)
+unfolding everSealed
+ever-append xs ys = gathered-append everSealed (λ e. e .sealed) refl (λ e es. refl) xs ys
+
+pub holders-append : (xs ys : List Event) (group : ℕ) → holdersOf (xs ++ ys) group ≡ union (holdersOf xs group) (holdersOf ys group)
+unfolding holdersOf
+holders-append xs ys group =
+    gathered-append (λ es. holdersOf es group) (λ e. if apart group (union (e .opened) (e .sealed)) then 0 else single 16 (e .subject)) refl (λ e es. refl) xs ys

@@ -29,6 +29,8 @@ pub mod KeyLaws
 pub mod BuiltColumns
 pub mod BuiltFree
 pub mod BuiltAllowed
+pub mod BuiltDelivered
+pub mod User
 pub mod Demand
 pub mod Keyed
 pub mod Turns

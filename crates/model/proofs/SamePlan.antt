@@ -1,5 +1,5 @@
 -- Plans that agree at every node run alike.
-use Prim.Native.Nat.{ℕ, _<_}
+use Prim.Native.Nat.{ℕ, _-_, _<_}
 use mathlib.Core.Path.{_≡_, refl}
 use mathlib.Core.Bool.{Bool, true, false}
 use mathlib.Core.List.{List}
@@ -15,7 +15,7 @@ use Rattle.run.specs.Keys.{Plan, Event, events}
 use Rattle.model.specs.Choice.{Choice}
 use Rattle.model.specs.Plan.{built, nameIn, holdersIn, planRoom, keysRoom}
 use Rattle.model.proofs.Turns.{turn-same}
-use Rattle.run.specs.Run.{Held, keyOf, holders, sealedUnder, nothing, leaving, openedBy, arriving, heldStep, helds, resultOf, leftArrives, rightArrives, leftOpened, rightOpened, arrived, opened, Stuck, seals-unclear, opens-unsealed, opens-unheld, needs-unclear, mixes, ForbiddenAt, left-arrives, right-arrives, left-opened, right-opened, result-made, Clean}
+use Rattle.run.specs.Run.{Held, keyOf, holders, sealedUnder, nothing, leaving, openedBy, arriving, heldStep, helds, resultOf, leftArrives, rightArrives, leftOpened, rightOpened, arrived, opened, delivered, received, deliveries, allEvents, Stuck, seals-unclear, opens-unsealed, opens-unheld, needs-unclear, mixes, ForbiddenAt, left-arrives, right-arrives, left-opened, right-opened, result-made, DeliveryFails, user-takes, user-opens, user-unheld, Clean}
 
 -- the same subject, openings and sealings at every node
 pub record Alike (N : Night) (p q : Plan) : Type 0 where
@@ -35,24 +35,15 @@ module _ (N : Night) (p q : Plan) (alike : Alike N p q) where
           → _≡_ {A = Event} (record { subject = p .subject i; opened = p .opens i; sealed = p .seals i }) (record { subject = q .subject i; opened = q .opens i; sealed = q .seals i })
       one i l = rw (alike .subject i l, alike .opens i l, alike .seals i l) refl
 
-  -- so they have the same keys
+  -- so their keys have the same names
   pub key-same : (k : ℕ) → keyOf N p k ≡ keyOf N q k
   unfolding keyOf
   key-same k = rw events-same refl
 
-  pub holders-same : (k : ℕ) → holders N p k ≡ holders N q k
-  unfolding holders
-  holders-same k = rw events-same refl
-
-  -- and fill the rooms alike
+  -- and the plan's room is filled alike
   pub plan-same : planRoom N p ≡ planRoom N q
   unfolding planRoom
   plan-same = turn-same (p .opens) (p .seals) (q .opens) (q .seals) n (alike .opens) (alike .seals)
-
-  pub keys-same : keysRoom N p ≡ keysRoom N q
-  unfolding keysRoom nameIn holdersIn
-  keys-same =
-      turn-same (nameIn N p) (holdersIn N p) (nameIn N q) (holdersIn N q) (N .header .attributes) (λ k l. rw events-same refl) (λ k l. rw events-same refl)
 
   -- they have the same tables
   leaving-same : (k : ℕ) → k < n → (t : Held) → leaving N p k t ≡ leaving N q k t
@@ -113,7 +104,33 @@ module _ (N : Night) (p q : Plan) (alike : Alike N p q) where
     unfolding opened
     opened-same i l = rw (left-opened-same i l, right-opened-same i l) refl
 
-    -- so they are stuck at the same nodes
+    -- the same is delivered
+    last : n - 1 < n
+    last = omega (arith, sound .counts .nodes-some)
+
+    delivered-same : delivered N p ≡ delivered N q
+    unfolding delivered
+    delivered-same = rw (result-same (n - 1)) (leaving-same (n - 1) last (resultOf N q (n - 1)))
+
+    received-same : received N p ≡ received N q
+    unfolding received
+    received-same = rw delivered-same refl
+
+    -- so the keys have the same holders
+    all-events-same : allEvents N p ≡ allEvents N q
+    unfolding allEvents deliveries
+    all-events-same = rw (events-same, delivered-same) refl
+
+    pub holders-same : (k : ℕ) → holders N p k ≡ holders N q k
+    unfolding holders
+    holders-same k = rw all-events-same refl
+
+    pub keys-same : keysRoom N p ≡ keysRoom N q
+    unfolding keysRoom nameIn holdersIn
+    keys-same =
+        turn-same (nameIn N p) (holdersIn N p) (nameIn N q) (holdersIn N q) (N .header .attributes) (λ k l. rw events-same refl) (λ k l. rw all-events-same refl)
+
+    -- they are stuck at the same nodes
     stuck-same : (i : ℕ) → i < n → Stuck N q i → Stuck N p i
     stuck-same i l (seals-unclear a h u) = seals-unclear a (rw (alike .seals i l) h) (rw (result-same i) u)
     stuck-same i l (opens-unsealed a h u) = opens-unsealed a (rw (alike .opens i l) h) (rw (arrived-same i l) u)
@@ -130,8 +147,19 @@ module _ (N : Night) (p q : Plan) (alike : Alike N p q) where
     forbidden-same i l (right-opened u f) = right-opened u (rw (alike .subject i l, right-opened-same i l) f)
     forbidden-same i l (result-made s f) = result-made s (rw (alike .subject i l, result-same i) f)
 
+    -- and so does their delivery fail
+    delivery-same : DeliveryFails N q → DeliveryFails N p
+    delivery-same (user-takes f) = user-takes (rw delivered-same f)
+    delivery-same (user-opens f) = user-opens (rw received-same f)
+    delivery-same (user-unheld a key e u) = user-unheld a key (rw delivered-same e) (rw (holders-same key) u)
+
     pub clean-same : Clean N p → Clean N q
-    clean-same c = record { free = λ i l h. c .free i l (stuck-same i l h); allowed = λ i l h. c .allowed i l (forbidden-same i l h) }
+    clean-same c =
+        record {
+          free = λ i l h. c .free i l (stuck-same i l h);
+          allowed = λ i l h. c .allowed i l (forbidden-same i l h);
+          delivery = λ d h. c .delivery d (delivery-same h);
+        }
 
 -- the plans that are built for choices that are the same at every node
 pub built-alike : (N : Night) (c d : Choice) → ((i : ℕ) → i < N .header .nodes → c i ≡ d i) → Alike N (built N c) (built N d)

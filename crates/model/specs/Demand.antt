@@ -11,6 +11,7 @@ use Rattle.model.specs.Candidates.{candidateSet}
 use Rattle.model.specs.Choice.{Choice, ownerOf}
 use Rattle.run.specs.Keys.{Plan}
 use Rattle.model.specs.Plan.{built, nameIn, holdersIn}
+use Rattle.model.specs.User.{UserMay}
 use Rattle.run.specs.Run.{Tied, Clean, reached, keyOf, holders, resultOf}
 
 -- a subject for each node, and the owners at the leaves
@@ -22,15 +23,15 @@ pub record Assigned (N : Night) (c : Choice) : Type 0 where
 abbrev pub FromCandidates : Night → Choice → Type 0
 FromCandidates N c = (i : ℕ) → i < N .header .nodes → (nodeOf N i .kind ≡ 0 → ⊥) → In (c i) (candidateSet N i)
 
--- some openings and sealings run clean exactly when each step's subject is one of its candidates
+-- where a user may have every leaf's table, some openings and sealings run clean exactly when each step's subject is one of its candidates
 abbrev pub RunsExactly : Type 0
 RunsExactly =
-    (N : Night) → Promised N → (c : Choice) → Assigned N c
+    (N : Night) → Promised N → UserMay N → (c : Choice) → Assigned N c
     → ((opens : ℕ → ℕ) × (seals : ℕ → ℕ) × Clean N (record { subject = c; opens = opens; seals = seals })) ↔ FromCandidates N c
 
 -- and then the built plan runs clean
 abbrev pub BuiltRuns : Type 0
-BuiltRuns = (N : Night) → Promised N → (c : Choice) → Assigned N c → FromCandidates N c → Clean N (built N c)
+BuiltRuns = (N : Night) → Promised N → UserMay N → (c : Choice) → Assigned N c → FromCandidates N c → Clean N (built N c)
 
 -- for any plan, the keys by the root's tied sets are the run's
 abbrev pub KeysAgree : Type 0

@@ -8,4 +8,5 @@ pub mod Choice
 pub mod Order
 pub mod Dp
 pub mod Plan
+pub mod User
 pub mod Demand

@@ -1,5 +1,4 @@
 -- Two choices of the same total: the list of subjects is read from the last node to the first.
-use Prim.Native.Nat.{ℕ}
 use mathlib.Core.Path.{_≡_}
 use mathlib.Core.List.{[], _∷_}
 use lib.ListN.{getD}
@@ -11,7 +10,7 @@ use Rattle.model.specs.Choice.{Choice, Admissible, Least, total}
 abbrev pub evenNight : Night
 evenNight =
     record {
-      header = record { version = 1; subjects = 3; relations = 1; attributes = 1; nodes = 3; grants = 1; steps = 12 };
+      header = record { version = 1; subjects = 3; relations = 1; attributes = 1; nodes = 3; grants = 1; steps = 12; user = 0 };
       relations = record { owner = 0; set = 1 } ∷ [];
       grants = record { relation = 0; subject = 255; clear = 1; sealed = 0 } ∷ [];
       nodes =

@@ -12,6 +12,7 @@ use Rattle.night.specs.Kinds.{usesLeft, usesRight, visible}
 use Rattle.night.specs.Promised.{Promised}
 use Rattle.model.specs.Tables.{tableOf}
 use Rattle.run.specs.Keys.{Plan, events, keyName, keyHolders}
+use Rattle.run.specs.Run.{allEvents}
 
 -- what leaves node k sealed, for given sealings, where `before` has what is sealed in the results of the nodes
 unfoldable pub leavesSealed : Night → (ℕ → ℕ) → List ℕ → ℕ → ℕ
@@ -59,12 +60,13 @@ OpensNeeded = (N : Night) → Promised N → (i : ℕ) → i < N .header .nodes 
 unfoldable pub rootTied : Night → ℕ → ℕ
 rootTied N k = getD (tableOf N (N .header .nodes - 1) .tied) k 0
 
--- the name and the holders of attribute k's key: sealed attributes are grouped by the root's tied sets, others alone
+-- the name and the holders of attribute k's key: sealed attributes are grouped by the root's tied sets, others alone; the delivery, which seals
+-- nothing, is one more event
 unfoldable pub nameIn : Night → Plan → ℕ → ℕ
 nameIn N p k = keyName (rootTied N) (events N p) k
 
 unfoldable pub holdersIn : Night → Plan → ℕ → ℕ
-holdersIn N p k = keyHolders (rootTied N) (events N p) k
+holdersIn N p k = keyHolders (rootTied N) (allEvents N p) k
 
 -- two numbers for each i below n, in turn
 unfoldable pub inTurn : (ℕ → ℕ) → (ℕ → ℕ) → ℕ → List ℕ

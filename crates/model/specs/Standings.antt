@@ -22,7 +22,7 @@ aNode kind left right x y set needed =
 abbrev pub nodesOf : ℕ → List Node → Night
 nodesOf n nodes =
     record {
-      header = record { version = 1; subjects = 1; relations = 2; attributes = 6; nodes = n; grants = 0; steps = 0 };
+      header = record { version = 1; subjects = 1; relations = 2; attributes = 6; nodes = n; grants = 0; steps = 0; user = 0 };
       relations = [];
       grants = [];
       nodes = nodes;

@@ -1,4 +1,5 @@
 -- A night: the values of one plan file, and what document 01 says of them.
+pub mod Versions
 pub mod Night
 pub mod Kinds
 pub mod Views

@@ -6,6 +6,7 @@ use mathlib.Core.Bool.{true}
 use mathlib.Core.List.{List, [], _∷_}
 use mathlib.Core.Logic.{_⊎_}
 use Rattle.sets.specs.Sets.{In, Within, Apart}
+use Rattle.night.specs.Versions.{delivers}
 use Rattle.night.specs.Night.{Night, relationOf, grantOf, nodeOf, stepPrice, linkPrice}
 use Rattle.night.specs.Kinds.{usesLeft, usesRight, usesX, usesSet, reads, readTogether, visible, isChild}
 use Rattle.night.specs.Views.{anySubject, viewOf}
@@ -15,7 +16,7 @@ abbrev pub AllOrNone : ℕ → List ℕ → Type 0
 AllOrNone needed [] = Unit {0}
 AllOrNone needed (t ∷ ts) = (Apart needed t ⊎ Within t needed) × AllOrNone needed ts
 
--- the counts are within their limits; that there is a grant at all follows from the owners' views
+-- the counts are within their limits, and a user is a subject; that there is a grant at all follows from the owners' views
 pub record SoundCounts (N : Night) : Type 0 where
   pub subjects-some : 1 ≤ N .header .subjects
   pub subjects-most : N .header .subjects ≤ 16
@@ -27,6 +28,7 @@ pub record SoundCounts (N : Night) : Type 0 where
   pub nodes-most : N .header .nodes ≤ 64
   pub grants-some : 1 ≤ N .header .grants
   pub grants-most : N .header .grants ≤ 272
+  pub user-there : delivers (N .header .version) ≡ true → N .header .user < N .header .subjects
 
 -- relation i has an owner, who sees all of it in clear, and attributes below a that no earlier relation has
 pub record SoundRelation (N : Night) (i : ℕ) : Type 0 where

@@ -1,7 +1,8 @@
 // The values of a plan file as read, every field: what the definitions of a night are over, and what
-// reading hands out. No functions.
+// reading hands out; and what each version of the file has.
+pub mod versions;
 
-// The header's values.
+// The header's values. In a version without a user, `user` is 0 and nothing looks at it.
 pub struct Header {
     pub version: u16,
     pub subjects: u8,
@@ -10,6 +11,7 @@ pub struct Header {
     pub nodes: u8,
     pub grants: u16,
     pub steps: u32,
+    pub user: u8,
 }
 
 // A relation: its owner and its attributes.

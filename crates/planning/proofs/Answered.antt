@@ -15,11 +15,12 @@ use Rattle.night.specs.Promised.{Promised}
 use Rattle.layout.specs.Layout.{headerOf, nightIn, nightOf}
 use Rattle.model.specs.Candidates.{candidateSet}
 use Rattle.model.specs.Choice.{total}
-use Rattle.verdicts.specs.Refusals.{candidateTrials, stepsTrials, offerTrials, cheapestTrials, offeredTrials, Rooms, cheapestPlanTrials, offeredPlanTrials}
+use Rattle.verdicts.specs.Refusals.{choiceTrials, choosingOf, candidateTrials, stepsTrials, offerTrials, cheapestTrials, offeredTrials, Rooms, cheapestPlanTrials, offeredPlanTrials}
 use Rattle.model.proofs.May.{set-exactly}
 use Rattle.trials.specs.Trials.{trials, checkOf}
 use Rattle.trials.proofs.Opened.{accepted-header}
 use Rattle.trials.proofs.Promises.{accepted-promises}
+use Rattle.verdicts.proofs.User.{choosing-accepted}
 use Rattle.choosing.specs.Answers.{ChoiceSays, offeredOf}
 use Rattle.choosing.specs.declared.Cheapest.the-variants.{Found, Refused as NotFound}
 use Rattle.planning.specs.Answers.{candidatesOf, CandidatesExactly, CandidatesOnce, NoneElsewhere, Filled, CheapestSays, OfferedSays}
@@ -57,16 +58,16 @@ candidates-once (Refused n p) (Refused m q) e =
     let place : p ≡ q = cc in
     rw (number, place) refl
 
--- what reading promises of a file that passes its trials
-passed-promises : (s : List ℕ) → Passes (trials s) → Promised (nightOf s)
-unfolding checkOf
-passed-promises s h = accepted-promises s (headerOf s) (passes-accepts (trials s) (headerOf s) h)
+-- what reading promises of a file that passes what both choices begin with
+passed-promises : (s : List ℕ) → Passes (choiceTrials s) → Promised (nightOf s)
+unfolding choosingOf
+passed-promises s h = accepted-promises s (headerOf s) (choosing-accepted s (headerOf s) (passes-accepts (choiceTrials s) (headerOf s) h))
 
 -- `cheapest`: the choice's refusal, a short room, and the rooms filled
 pub chosen-promises : (s : List ℕ) → verdict (cheapestTrials s) (tt {0}) ≡ answers tt → Promised (nightOf s)
 unfolding cheapestTrials
 chosen-promises s e =
-    passed-promises s (passes-append (trials s) (candidateTrials (nightOf s) ++ stepsTrials (nightOf s)) (passed (cheapestTrials s) tt tt e .0) .0)
+    passed-promises s (passes-append (choiceTrials s) (candidateTrials (nightOf s) ++ stepsTrials (nightOf s)) (passed (cheapestTrials s) tt tt e .0) .0)
 
 pub cheapest-unchosen : (s subjects : List ℕ) (rooms : Rooms) (n p : ℕ) → ChoiceSays s subjects (NotFound n p) → CheapestSays s rooms rooms (NoCheapest n p)
 unfolding cheapestPlanTrials
@@ -104,7 +105,7 @@ cheapest-filled s subjects before after short total steps w low none choice fill
 pub offered-promises : (s offer : List ℕ) (t : ℕ) → offeredOf s offer ≡ answers t → Promised (nightOf s)
 unfolding offeredOf offeredTrials
 offered-promises s offer t e =
-    passed-promises s (passes-append (trials s) (offerTrials (nightOf s) offer) (passed (offeredTrials s offer) (total (nightOf s) (λ i. getD offer i 0)) t e .0) .0)
+    passed-promises s (passes-append (choiceTrials s) (offerTrials (nightOf s) offer) (passed (offeredTrials s offer) (total (nightOf s) (λ i. getD offer i 0)) t e .0) .0)
 
 pub offered-uncosted : (s offer : List ℕ) (rooms : Rooms) (n p : ℕ) → offeredOf s offer ≡ refuses n p → OfferedSays s offer rooms rooms (NoOffered n p)
 unfolding offeredOf offeredPlanTrials

@@ -71,9 +71,11 @@ pub(crate) fn fill_plan(file: &[u8], h: Header, choice: &[u8], plan: &mut [u64],
 {
     let opens = built::all_opens(file, h);
     let seals = built::all_seals(file, h);
-    let tied = built::root_tied(file, h);
+    let root = built::root_table(file, h);
+    let tied = root.tied;
     let names = keys::names(tied, seals, h.nodes);
-    let holders = keys::holders(tied, choice, opens, seals, h.nodes);
+    let delivery = built::delivery(h, root.sealed);
+    let holders = keys::holders(tied, choice, opens, seals, h.nodes, delivery);
     fill_pairs(plan, opens, seals, h.nodes);
     fill_pairs(keys, names, holders, h.attributes);
 }

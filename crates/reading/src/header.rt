@@ -2,6 +2,7 @@
 use crate::Tried;
 use layout::places;
 use layout::values;
+use night::versions;
 use rules::records;
 ghost use mathlib.Core.Path.{_≡_};
 ghost use Rattle.laws.specs.Trials.{verdict};
@@ -32,7 +33,7 @@ fn not_versioned(file: &[u8]) -> bool
         return true;
     }
     let h = values::header(file);
-    h.version != 1
+    !versions::known(h.version)
 }
 
 // The header's trials: 3 is asked before 4 of the header itself, and after 4 of the whole file.
@@ -51,13 +52,13 @@ pub(crate) fn header_tried(file: &[u8]) -> Tried
             place: 0,
         };
     }
-    if file.len() < places::HEADER_LENGTH {
+    let h = values::header(file);
+    if file.len() < versions::header_length(h.version) {
         return Tried::Failed {
             number: 3,
             place: 0,
         };
     }
-    let h = values::header(file);
     if records::counts_bad(h) {
         return Tried::Failed {
             number: 4,

@@ -9,15 +9,20 @@ use Rattle.night.specs.declared.Header.{Header}
 use Rattle.night.specs.declared.Relation.{Relation}
 use Rattle.night.specs.declared.Grant.{Grant}
 use Rattle.night.specs.declared.Node.{Node}
+use Rattle.night.specs.Versions.{delivers}
 use Rattle.night.specs.Kinds.{aLeaf, aCompare, aJoin, anAggregate, aFunction, usesLeft, usesRight, usesX, usesY, usesSet, reads, readTogether}
 use Rattle.night.specs.Views.{anySubject}
 
--- 4: a count outside its limits
+-- 4: in a version with a user, its number is no subject's
+unfoldable pub userBad : Header → Bool
+userBad h = if delivers (h .version) then not (ltb (h .user) (h .subjects)) else false
+
+-- 4: a count outside its limits, or the user not below s
 unfoldable pub countsBad : Header → Bool
 countsBad h =
     anyOf
     (ltb (h .subjects) 1 ∷ ltb 16 (h .subjects) ∷ ltb (h .relations) 1 ∷ ltb 16 (h .relations) ∷ ltb (h .attributes) 1 ∷ ltb 64 (h .attributes)
-    ∷ ltb (h .nodes) 1 ∷ ltb 64 (h .nodes) ∷ ltb 272 (h .grants) ∷ [])
+    ∷ ltb (h .nodes) 1 ∷ ltb 64 (h .nodes) ∷ ltb 272 (h .grants) ∷ userBad h ∷ [])
 
 -- 5: a relation's owner is no subject, its set is empty, has an attribute not below a, or one that an earlier relation has taken
 unfoldable pub relationBad : Header → ℕ → Relation → Bool

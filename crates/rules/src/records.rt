@@ -2,11 +2,25 @@
 use night::Grant;
 use night::Header;
 use night::Relation;
+use night::versions;
 use sets::attributes;
 ghost use mathlib.Core.Path.{_≡_};
-ghost use Rattle.rules.specs.Rules.{countsBad, relationBad, leftOver, subjectThere, grantBad, ownerBad, mostForStep, mostForLink};
+ghost use Rattle.rules.specs.Rules.{userBad, countsBad, relationBad, leftOver, subjectThere, grantBad, ownerBad, mostForStep, mostForLink};
 
-// 4: whether a count is outside its limits.
+// 4: whether the user, in a version that has one, is no subject.
+fn user_bad(h: Header) -> bool
+    ensures { λ r. ⌜ r ≡ userBad h ⌝ }
+{
+    if versions::delivers(h.version) {
+        if h.subjects <= h.user {
+            return true;
+        }
+        return false;
+    }
+    false
+}
+
+// 4: whether a count is outside its limits, or the user not below s.
 pub fn counts_bad(h: Header) -> bool
     ensures { λ r. ⌜ r ≡ countsBad h ⌝ }
 {
@@ -37,7 +51,7 @@ pub fn counts_bad(h: Header) -> bool
     if night::MOST_GRANTS < h.grants {
         return true;
     }
-    false
+    user_bad(h)
 }
 
 // 5: whether a relation breaks a rule, where the relations before it have taken `taken`.

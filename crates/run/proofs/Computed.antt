@@ -9,13 +9,14 @@ use Rattle.laws.specs.First.{first}
 use Rattle.laws.specs.Upwards.{upwards}
 use Rattle.sets.specs.Sets.{bit, member, union, meet, minus, apart, single, unions, lowest}
 use Rattle.night.specs.Night.{grantOf, nodeOf}
+use Rattle.night.specs.Versions.{delivers}
 use Rattle.night.specs.Kinds.{usesLeft, usesRight, reads, readTogether, visibleAfter, visibleStep, visibles}
 use Rattle.night.specs.Views.{isFor, grantFor, viewOf, clearOf, sealedOf}
 use Rattle.run.specs.Linked.{one, step}
 use Rattle.run.specs.Keys.{events, everSealed, groupOf, keyName, holdersOf, keyHolders}
-use Rattle.run.specs.Run.{clear, sealed, testedBy, tiedBy, Tested, Tied, spreadOver, spread, spreadTimes, reached, keyOf, holders, leaving, openedBy, together, leafHeld, resultOver, arriving, heldStep, helds, resultOf, leftArrives, rightArrives, leftOpened, rightOpened, arrived, opened, seals-unclear, opens-unsealed, opens-unheld, needs-unclear, mixes, clear-column, clear-test, sealed-column, sealed-test, tied-apart, left-arrives, right-arrives, left-opened, right-opened, result-made}
+use Rattle.run.specs.Run.{clear, sealed, testedBy, tiedBy, Tested, Tied, spreadOver, spread, spreadTimes, reached, keyOf, holders, leaving, openedBy, together, leafHeld, resultOver, arriving, heldStep, helds, resultOf, leftArrives, rightArrives, leftOpened, rightOpened, arrived, opened, delivered, received, sealedIn, deliveries, allEvents, seals-unclear, opens-unsealed, opens-unheld, needs-unclear, mixes, clear-column, clear-test, sealed-column, sealed-test, tied-apart, left-arrives, right-arrives, left-opened, right-opened, result-made, user-takes, user-opens, user-unheld}
 use Rattle.run.proofs.Forms.{absent-clear, absent-sealed, sealed-clear, same-sealed}
-use Rattle.run.specs.Runs.{seenBy, plan, Runs}
+use Rattle.run.specs.Runs.{seenIn, plan, Runs}
 
 no : _≡_ {A = ℕ} 0 1 → ⊥
 no e = omega arith
@@ -30,7 +31,7 @@ one-key : {k : ℕ} → sealed 0 ≡ sealed k → sealed 64 ≡ sealed k → ⊥
 one-key e f = let z : _≡_ {A = ℕ} 0 64 = same-sealed (e ∙ sym f) in omega arith
 
 pub runs : Runs
-unfolding anyOf first upwards bit member union meet minus apart single unions lowest grantOf nodeOf usesLeft usesRight reads readTogether visibleAfter visibleStep visibles isFor grantFor viewOf clearOf sealedOf events everSealed groupOf keyName holdersOf keyHolders testedBy tiedBy Tested Tied spreadOver spread spreadTimes reached keyOf holders leaving openedBy together leafHeld resultOver arriving heldStep helds resultOf leftArrives rightArrives leftOpened rightOpened arrived opened seenBy plan trailingZeros
+unfolding anyOf first upwards bit member union meet minus apart single unions lowest grantOf nodeOf usesLeft usesRight reads readTogether visibleAfter visibleStep visibles isFor grantFor viewOf clearOf sealedOf events everSealed groupOf keyName holdersOf keyHolders testedBy tiedBy Tested Tied spreadOver spread spreadTimes reached keyOf holders leaving openedBy together leafHeld resultOver arriving heldStep helds resultOf leftArrives rightArrives leftOpened rightOpened arrived opened delivers delivered received sealedIn deliveries allEvents seenIn plan trailingZeros
 runs =
     record {
       seals-twice = λ c. c .free 1 (omega arith) (seals-unclear 0 refl sealed-clear);
@@ -66,6 +67,22 @@ runs =
       stuck-leaf = opens-unsealed 0 refl (λ key. absent-sealed);
       stuck-step = seals-unclear 0 refl sealed-clear;
       forbidden-step = result-made join-made (tied-apart 0 2 0 (one {m = 5} (inl (inl refl)) refl refl) (one {m = 5} (inl (inl refl)) refl refl) no no);
+      user-clear = λ c. c .delivery refl (user-opens (clear-column 0 refl no));
+      user-test = λ c. c .delivery refl (user-opens (clear-test 0 (inl (refl, refl)) no));
+      user-tied = λ c. c .delivery refl (user-opens (tied-apart 0 0 1 (one {m = 3} (inl (inl refl)) refl refl) (one {m = 3} (inl (inl refl)) refl refl) no no));
+      user-opens = λ c. c .delivery refl (user-opens (clear-column 0 refl no));
+      user-opens-early = λ c. c .delivery refl (user-opens (clear-column 0 refl no));
+      user-unheld = λ c. c .delivery refl (user-unheld 0 0 refl no);
+      user-takes = user-takes (sealed-column 0 0 refl no no);
+      user-holds = refl;
+      user-holds-last = refl;
+      user-holds-own = refl;
+      user-clear-holds = refl;
+      user-leaf-holds = refl;
+      nobody-holds = refl;
+      user-gone-holds = refl;
+      user-tied-holds = refl;
+      user-last-holds = refl;
       chain-key = refl;
       chain-key-unsealed = refl;
       no-key = refl;

@@ -1,20 +1,21 @@
 -- The run of a plan, over columns and past steps.
-use Prim.Native.Nat.{ℕ, zero, suc, _<_}
+use Prim.Native.Nat.{ℕ, zero, suc, _-_, _<_}
 use mathlib.Core.Path.{_≡_}
-use mathlib.Core.Bool.{Bool, true}
+use mathlib.Core.Bool.{Bool, true, false}
 use mathlib.Core.List.{List, [], _∷_, _++_}
 use mathlib.Core.Logic.{_⊎_}
 use lib.Dec.{eqb}
 use lib.ListN.{getD}
 use Rattle.laws.specs.Choose.{if_then_else_, anyOf}
 use Rattle.laws.specs.Upwards.{upwards}
-use Rattle.sets.specs.Sets.{In, member, union, apart}
+use Rattle.sets.specs.Sets.{In, member, union, apart, unions}
 use Rattle.night.specs.declared.Node.{Node}
+use Rattle.night.specs.Versions.{delivers}
 use Rattle.night.specs.Night.{Night, nodeOf}
 use Rattle.night.specs.Kinds.{aLeaf, aSelect, aCompare, aJoin, anAggregate, aCount, aFunction, usesLeft, usesRight, attribute, reads, readTogether, visible}
 use Rattle.night.specs.Views.{clearOf, sealedOf}
 use Rattle.run.specs.Linked.{Chain}
-use Rattle.run.specs.Keys.{Plan, events, keyName, keyHolders}
+use Rattle.run.specs.Keys.{Plan, Event, events, keyName, keyHolders}
 
 -- an attribute in a table: not there, clear, or sealed under a key
 pub data Form : Type 0 where
@@ -74,12 +75,9 @@ spreadTimes N (suc k) s = spread N (N .header .nodes) (spreadTimes N k s)
 unfoldable pub reached : Night → ℕ → ℕ
 reached N k = spreadTimes N 64 (attribute k)
 
--- the name of attribute k's key in the run, and the holders of that key
+-- the name of attribute k's key in the run
 unfoldable pub keyOf : Night → Plan → ℕ → ℕ
 keyOf N p k = keyName (reached N) (events N p) k
-
-unfoldable pub holders : Night → Plan → ℕ → ℕ
-holders N p k = keyHolders (reached N) (events N p) k
 
 -- sealing a clear column, opening a sealed one; any other stays as it is
 abbrev pub sealedUnder : ℕ → Form → Form
@@ -166,6 +164,36 @@ arrived N p i = together (leftArrives N p i) (rightArrives N p i)
 unfoldable pub opened : Night → Plan → ℕ → Held
 opened N p i = together (leftOpened N p i) (rightOpened N p i)
 
+-- what is delivered: the root's table after its own sealing
+unfoldable pub delivered : Night → Plan → Held
+delivered N p = leaving N p (N .header .nodes - 1) (resultOf N p (N .header .nodes - 1))
+
+-- and after the user has opened whatever is sealed
+unfoldable pub received : Night → Plan → Held
+received N p = record { column = λ a. unsealed (delivered N p .column a); past = delivered N p .past }
+
+-- a column is sealed
+abbrev pub isSealed : Form → Bool
+isSealed absent = false
+isSealed clear = false
+isSealed (sealed key) = true
+
+-- the attributes that are sealed in a table
+unfoldable pub sealedIn : Night → Held → ℕ
+sealedIn N t = unions (λ a. if isSealed (t .column a) then attribute a else 0) (N .header .attributes)
+
+-- the delivery as one more event: the user opens whatever is sealed; none in a version without a user
+unfoldable pub deliveries : Night → Plan → List Event
+deliveries N p =
+    if delivers (N .header .version) then record { subject = N .header .user; opened = sealedIn N (delivered N p); sealed = 0 } ∷ [] else []
+
+unfoldable pub allEvents : Night → Plan → List Event
+allEvents N p = events N p ++ deliveries N p
+
+-- the holders of attribute k's key in the run
+unfoldable pub holders : Night → Plan → ℕ → ℕ
+holders N p k = keyHolders (reached N) (allEvents N p) k
+
 -- a set all in this form
 abbrev pub AllAre : Held → ℕ → Form → Type 0
 AllAre t m form = (a : ℕ) → In a m → t .column a ≡ form
@@ -211,7 +239,20 @@ pub data ForbiddenAt (N : Night) (p : Plan) (i : ℕ) : Type 0 where
   -- the result
   result-made : (nodeOf N i .kind ≡ 0 → ⊥) → Forbids N p i (resultOf N p i) → ForbiddenAt N p i
 
--- no node is stuck, and none is given a forbidden table
+-- the table is forbidden to the user
+abbrev pub ForbidsUser : Night → Held → Type 0
+ForbidsUser N t = Forbidden N t (clearOf N (N .header .user)) (sealedOf N (N .header .user))
+
+-- the delivery fails
+pub data DeliveryFails (N : Night) (p : Plan) : Type 0 where
+  -- the user is given a forbidden table, on arrival or after opening
+  user-takes : ForbidsUser N (delivered N p) → DeliveryFails N p
+  user-opens : ForbidsUser N (received N p) → DeliveryFails N p
+  -- the user opens without being a holder
+  user-unheld : (a key : ℕ) → delivered N p .column a ≡ sealed key → (In (N .header .user) (holders N p key) → ⊥) → DeliveryFails N p
+
+-- no node is stuck, and none is given a forbidden table; in a version with a user the delivery does not fail
 pub record Clean (N : Night) (p : Plan) : Type 0 where
   pub free : (i : ℕ) → i < N .header .nodes → Stuck N p i → ⊥
   pub allowed : (i : ℕ) → i < N .header .nodes → ForbiddenAt N p i → ⊥
+  pub delivery : delivers (N .header .version) ≡ true → DeliveryFails N p → ⊥

@@ -7,7 +7,7 @@ use Rattle.sets.specs.Sets.{meet, minus}
 use Rattle.night.specs.declared.Node.{Node}
 use Rattle.night.specs.Night.{Night}
 use Rattle.run.specs.Keys.{Plan}
-use Rattle.run.specs.Run.{leftArrives, keyOf, holders, Stuck, Forbidden, ForbiddenAt, Clean}
+use Rattle.run.specs.Run.{leftArrives, keyOf, holders, delivered, Stuck, Forbidden, ForbiddenAt, ForbidsUser, DeliveryFails, Clean}
 
 -- a node by kind, left, right, x, y, set and needed
 abbrev pub node : ℕ → ℕ → ℕ → ℕ → ℕ → ℕ → ℕ → Node
@@ -42,11 +42,11 @@ count left set = node 7 left 255 255 255 set 0
 abbrev pub function : ℕ → ℕ → ℕ → Node
 function left set x = node 8 left 255 x 255 set 0
 
--- subject 0 owns {0, 1} and {2, 3} and sees all in clear; one other subject sees P in clear and E sealed
-unfoldable pub seenBy : ℕ → ℕ → ℕ → List Node → Night
-seenBy other P E nodes =
+-- in a version, with a user: subject 0 owns {0, 1} and {2, 3} and sees all in clear; one other subject sees P in clear and E sealed
+unfoldable pub seenIn : ℕ → ℕ → ℕ → ℕ → ℕ → List Node → Night
+seenIn version user other P E nodes =
     record {
-      header = record { version = 1; subjects = 2; relations = 2; attributes = 4; nodes = length nodes; grants = 4; steps = 0 };
+      header = record { version = version; subjects = 2; relations = 2; attributes = 4; nodes = length nodes; grants = 4; steps = 0; user = user };
       relations = record { owner = 0; set = 3 } ∷ record { owner = 0; set = 12 } ∷ [];
       grants =
           record { relation = 0; subject = 0; clear = 3; sealed = 0 }
@@ -59,9 +59,17 @@ seenBy other P E nodes =
       linkPrices = [];
     }
 
+-- in version 1, where nobody asked
+abbrev pub seenBy : ℕ → ℕ → ℕ → List Node → Night
+seenBy other P E nodes = seenIn 1 0 other P E nodes
+
 -- the other is subject 1
 abbrev pub seen : ℕ → ℕ → List Node → Night
 seen P E nodes = seenBy 1 P E nodes
+
+-- and is the user, in version 2
+abbrev pub userSees : ℕ → ℕ → List Node → Night
+userSees P E nodes = seenIn 2 1 1 P E nodes
 
 -- subjects, openings and sealings of the nodes in order
 unfoldable pub plan : List ℕ → List ℕ → List ℕ → Plan
@@ -156,6 +164,28 @@ pub record Runs : Type 0 where
   pub stuck-leaf : Stuck (seen 3 0 two) (plan (0 ∷ 1 ∷ []) (1 ∷ []) []) 0
   pub stuck-step : Stuck (seen 3 0 two) (plan (0 ∷ 1 ∷ []) [] (1 ∷ 1 ∷ [])) 1
   pub forbidden-step : ForbiddenAt (seen 1 4 joined) (plan (0 ∷ 0 ∷ 1 ∷ []) [] (1 ∷ 4 ∷ [])) 2
+  -- the delivery, of what subject 0 alone has run: subject 1, the user, takes attribute 0 in clear, which it sees sealed; takes what is tested and
+  -- tied so; opens attribute 0, which the root, or the leaf, sealed and which it may take so; opens it and is no holder, as subject 16
+  pub user-clear : Unclean (userSees 2 1 two) (plan [] [] [])
+  pub user-test : Unclean (userSees 2 1 (handsOn (select 0 0 0))) (plan [] [] [])
+  pub user-tied : Unclean (userSees 2 1 (handsOn (compare 0 0 1))) (plan [] [] [])
+  pub user-opens : Unclean (userSees 2 1 two) (plan [] [] (0 ∷ 1 ∷ []))
+  pub user-opens-early : Unclean (userSees 2 1 two) (plan [] [] (1 ∷ []))
+  pub user-unheld : Unclean (seenIn 2 16 16 3 0 two) (plan [] [] (1 ∷ []))
+  -- on arrival: attribute 0 sealed, which the user doesn't see; it is forbidden after opening too, so no run tells the two apart
+  pub user-takes : DeliveryFails (userSees 2 0 two) (plan [] [] (1 ∷ []))
+  -- the user holds the key of attribute 0 where the leaf or the root sealed it, and where it ran the root itself; not where it arrives in clear, nor
+  -- where nobody sealed it, nor in version 1
+  pub user-holds : holders (userSees 3 0 two) (plan [] [] (1 ∷ [])) 0 ≡ 3
+  pub user-holds-last : holders (userSees 3 0 two) (plan [] [] (0 ∷ 1 ∷ [])) 0 ≡ 3
+  pub user-holds-own : holders (userSees 3 0 two) (plan (0 ∷ 1 ∷ []) [] (1 ∷ [])) 0 ≡ 3
+  pub user-clear-holds : holders (userSees 3 0 two) (plan [] (0 ∷ 1 ∷ []) (1 ∷ [])) 0 ≡ 1
+  pub user-leaf-holds : holders (userSees 3 0 (leaf 0 3 ∷ [])) (plan [] [] []) 0 ≡ 0
+  pub nobody-holds : holders (seenIn 1 1 1 3 0 two) (plan [] [] (1 ∷ [])) 0 ≡ 1
+  -- nor where it was projected away, unless one that is tied with it is delivered sealed; a leaf alone that seals its last attribute
+  pub user-gone-holds : holders (userSees 3 0 (leaf 0 3 ∷ project 0 2 ∷ [])) (plan [] [] (3 ∷ [])) 0 ≡ 1
+  pub user-tied-holds : holders (userSees 3 0 (handsOn (compare 0 0 1))) (plan [] [] (3 ∷ [])) 0 ≡ 3
+  pub user-last-holds : holders (userSees 15 0 (leaf 1 12 ∷ [])) (plan [] [] (8 ∷ [])) 3 ≡ 3
   -- one key, 0, for attributes 0, 1 and 2, linked by two ties; where 0 is never sealed, 1 names it and 0 has none; 3 has its own; holders
   -- seal or open one of the key's, not one that is linked and never sealed
   pub chain-key : keyOf (seen 9 6 chained) (plan (0 ∷ 0 ∷ 0 ∷ 0 ∷ 0 ∷ 1 ∷ []) [] (3 ∷ 0 ∷ 12 ∷ [])) 2 ≡ 0
@@ -172,6 +202,9 @@ pub record CleanRuns : Type 0 where
   pub unsealed-clean : Clean (seen 3 0 two) (plan (0 ∷ 1 ∷ []) [] [])
   pub root-seals : Clean (seen 3 0 two) (plan (0 ∷ 1 ∷ []) [] (0 ∷ 3 ∷ []))
   pub opens-more : Clean (seen 3 0 two) (plan (0 ∷ 1 ∷ []) (0 ∷ 3 ∷ []) (3 ∷ []))
+  -- delivered: the root seals, and the user sees all in clear; in version 1 nobody takes the root's table
+  pub user-clean : Clean (userSees 3 0 two) (plan (0 ∷ 1 ∷ []) [] (0 ∷ 3 ∷ []))
+  pub nobody-takes : Clean (seenIn 1 2 1 3 0 two) (plan (0 ∷ 1 ∷ []) [] [])
   -- not stuck: a step needs what arrives clear; it opens the one that is sealed of two that it reads together
   pub needs-clear : Stuck (seen 3 0 (leaf 0 3 ∷ select 0 0 1 ∷ [])) (plan (0 ∷ 1 ∷ []) [] []) 1 → ⊥
   pub opened-together : Stuck (seen 3 0 (leaf 0 3 ∷ compare 0 0 1 ∷ [])) (plan (0 ∷ 1 ∷ []) (0 ∷ 1 ∷ []) (1 ∷ [])) 1 → ⊥
@@ -180,3 +213,5 @@ pub record CleanRuns : Type 0 where
   pub seen-sealed :
       Forbidden (seen 2 1 (handsOn (select 0 0 0)))
       (leftArrives (seen 2 1 (handsOn (select 0 0 0))) (plan (0 ∷ 0 ∷ 0 ∷ 1 ∷ []) [] (1 ∷ [])) 3) 2 1 → ⊥
+  -- the user takes attribute 0 sealed, which it sees so
+  pub user-sees-sealed : ForbidsUser (userSees 2 1 two) (delivered (userSees 2 1 two) (plan [] [] (1 ∷ []))) → ⊥

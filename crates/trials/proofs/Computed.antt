@@ -6,10 +6,11 @@ use Rattle.laws.specs.First.{first, somewhere}
 use Rattle.laws.specs.Trials.{verdict, rows}
 use Rattle.laws.specs.Upwards.{upwards}
 use Rattle.sets.specs.Sets.{bit, member, union, meet, minus, within, apart, below, single, unions}
+use Rattle.night.specs.Versions.{known, delivers, headerLength}
 use Rattle.night.specs.Night.{relationOf, grantOf, nodeOf, stepPrice, linkPrice}
 use Rattle.night.specs.Kinds.{usesLeft, usesRight, usesX, usesY, usesSet, reads, readTogether, visibleAfter, visibleStep, visibles, isChild, taken}
 use Rattle.night.specs.Views.{isFor, grantFor, viewOf}
-use Rattle.rules.specs.Rules.{countsBad, relationBad, leftOver, subjectThere, grantBad, ownerBad, childBad, leftBad, rightBad, unusedBad, shapeBad, leafBad, xBad, yBad, setBad, placeBad, stepBad, half, neededBad, mostForStep, mostForLink}
+use Rattle.rules.specs.Rules.{userBad, countsBad, relationBad, leftOver, subjectThere, grantBad, ownerBad, childBad, leftBad, rightBad, unusedBad, shapeBad, leafBad, xBad, yBad, setBad, placeBad, stepBad, half, neededBad, mostForStep, mostForLink}
 use Rattle.layout.specs.Layout.{grantsFrom, nodesFrom, stepPricesFrom, linkPricesFrom, fileLength, headerOf, relationAt, grantAt, nodeAt, pricesAt, nightIn}
 use Rattle.trials.specs.Trials.{notMarked, notVersioned, headerTrials, takenBefore, pairSeen, isLeafOf, leafBefore, attributesBad, priceIn, mostIn, countIn, trialsOf, section, recordTrials, treeTrials, trials, checkOf}
 use Rattle.trials.specs.Sample.{sample}
@@ -17,30 +18,40 @@ use Rattle.trials.specs.Small.{small}
 use Rattle.trials.specs.Verdicts.{FileVerdicts}
 
 pub file-verdicts : FileVerdicts
-unfolding anyOf be first somewhere verdict rows upwards bit member union meet minus within apart below single unions relationOf grantOf nodeOf stepPrice linkPrice usesLeft usesRight usesX usesY usesSet reads readTogether visibleAfter visibleStep visibles isChild taken isFor grantFor viewOf countsBad relationBad leftOver subjectThere grantBad ownerBad childBad leftBad rightBad unusedBad shapeBad leafBad xBad yBad setBad placeBad stepBad half neededBad mostForStep mostForLink grantsFrom nodesFrom stepPricesFrom linkPricesFrom fileLength headerOf relationAt grantAt nodeAt pricesAt nightIn notMarked notVersioned headerTrials takenBefore pairSeen isLeafOf leafBefore attributesBad priceIn mostIn countIn trialsOf section recordTrials treeTrials trials checkOf sample small
+unfolding anyOf be first somewhere verdict rows upwards bit member union meet minus within apart below single unions known delivers headerLength relationOf grantOf nodeOf stepPrice linkPrice usesLeft usesRight usesX usesY usesSet reads readTogether visibleAfter visibleStep visibles isChild taken isFor grantFor viewOf userBad countsBad relationBad leftOver subjectThere grantBad ownerBad childBad leftBad rightBad unusedBad shapeBad leafBad xBad yBad setBad placeBad stepBad half neededBad mostForStep mostForLink grantsFrom nodesFrom stepPricesFrom linkPricesFrom fileLength headerOf relationAt grantAt nodeAt pricesAt nightIn notMarked notVersioned headerTrials takenBefore pairSeen isLeafOf leafBefore attributesBad priceIn mostIn countIn trialsOf section recordTrials treeTrials trials checkOf sample small
 file-verdicts =
     record {
       accepted = refl;
       sample-accepted = refl;
+      user-accepted = refl;
+      user-unread = refl;
       mark-short = refl;
       mark-first = refl;
       mark-second = refl;
       mark-third = refl;
       mark-before-version = refl;
       version-short = refl;
+      version-none = refl;
       version-other = refl;
       version-high = refl;
+      version-high-user = refl;
       version-before-header = refl;
       header-short = refl;
       header-before-counts = refl;
+      user-short = refl;
+      user-before-counts = refl;
       subjects-none = refl;
       relations-many = refl;
       attributes-many = refl;
       nodes-many = refl;
       grants-many = refl;
       counts-before-length = refl;
+      user-missing = refl;
+      user-any = refl;
+      user-before-length = refl;
       length-less = refl;
       length-more = refl;
+      user-length-less = refl;
       length-before-relations = refl;
       owner-missing = refl;
       relation-empty = refl;

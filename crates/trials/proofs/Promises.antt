@@ -1,9 +1,15 @@
 -- Every accepted list of bytes has the promised facts.
-use mathlib.Core.List.{_++_}
+use Prim.Native.Nat.{ℕ}
+use mathlib.Core.Path.{_≡_, ap}
+use mathlib.Core.List.{List, _++_}
+use Rattle.laws.specs.Trials.{answers}
 use Rattle.laws.proofs.Trials.{passed, passes-append}
+use Rattle.night.specs.declared.Header.{Header}
+use Rattle.night.specs.Promised.{Promised}
 use Rattle.layout.specs.Layout.{headerOf, nightIn, nightOf}
 use Rattle.trials.specs.Trials.{headerTrials, section, recordTrials, treeTrials, trials, checkOf, AcceptedPromises}
 use Rattle.trials.specs.declared.Section.the-variants.{Relations, Grants, Owners, Nodes, Parents, Prices}
+use Rattle.trials.proofs.Opened.{accepted-header}
 use Rattle.trials.proofs.SoundRecords.{relation-sound, relations-sound, grant-sound, counts-sound}
 use Rattle.trials.proofs.SoundNodes.{node-sound, parent-sound}
 use Rattle.trials.proofs.SoundPrices.{step-price, leaf-price, link-price, link-self}
@@ -33,3 +39,9 @@ accepted-promises s h e =
       link-price = link-price N (tree .1);
       link-self = link-self N (tree .1);
     }
+
+-- the same over the header that is answered
+pub accepted-sound : (s : List ℕ) (h : Header) → checkOf s ≡ answers h → Promised (nightIn s h)
+accepted-sound s h e =
+    let same = ap (λ (k : Header). nightIn s k) (accepted-header s h e) in
+    rw same at (accepted-promises s h e)

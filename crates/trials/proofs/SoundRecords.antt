@@ -18,8 +18,9 @@ use Rattle.night.specs.declared.Header.{Header}
 use Rattle.night.specs.Night.{Night, relationOf, grantOf}
 use Rattle.night.specs.Views.{anySubject, isFor, viewOf}
 use Rattle.night.proofs.Views.{is-for, no-grants}
+use Rattle.night.specs.Versions.{delivers}
 use Rattle.night.specs.Promised.{SoundCounts, SoundRelation, SoundGrant}
-use Rattle.rules.specs.Rules.{countsBad, relationBad, leftOver, subjectThere, grantBad, ownerBad}
+use Rattle.rules.specs.Rules.{userBad, countsBad, relationBad, leftOver, subjectThere, grantBad, ownerBad}
 use Rattle.trials.specs.Trials.{takenBefore, pairSeen, countIn, trialsOf, section}
 use Rattle.trials.specs.declared.Section.the-variants.{Relations, Grants, Owners}
 
@@ -89,6 +90,11 @@ grants-some N w = go (N .header .grants) refl
     go zero e = absurd (w .some (same-members (relationOf N 0 .set) 0 (λ k m. rw (no-grants N (relationOf N 0 .owner) 0 e) at (w .owner-clear k m)) (λ k m. absurd (in-none k m))))
     go (suc g) e = omega arith
 
+-- the user, in a version that has one
+user-sound : (N : Night) → userBad (N .header) ≡ false → delivers (N .header .version) ≡ true → N .header .user < N .header .subjects
+unfolding userBad
+user-sound N e d = ltb-true (N .header .user) (N .header .subjects) (not-false _ (rw d at e))
+
 -- the counts
 pub counts-sound : (N : Night) → countsBad (N .header) ≡ false → ((i : ℕ) → i < N .header .relations → SoundRelation N i) → SoundCounts N
 unfolding countsBad
@@ -106,4 +112,5 @@ counts-sound N e relation =
       nodes-most = ltb-false 64 (N .header .nodes) (q .1 .1 .1 .1 .1 .1 .1 .0);
       grants-some = grants-some N (relation 0 relations-some);
       grants-most = ltb-false 272 (N .header .grants) (q .1 .1 .1 .1 .1 .1 .1 .1 .0);
+      user-there = user-sound N (q .1 .1 .1 .1 .1 .1 .1 .1 .1 .0);
     }

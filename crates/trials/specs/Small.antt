@@ -1,7 +1,11 @@
 -- A small file, written record by record from document 01, whose neighbours have the verdicts of the table.
 use Prim.Native.Nat.{ℕ, _+_, _*_}
 use mathlib.Core.List.{List, [], _∷_, _++_}
-use lib.ListN.{set, replicate}
+use lib.ListN.{set, take, drop, replicate}
+
+-- a file of version 1 in version 2, with a user after the steps allowed
+abbrev pub withUser : ℕ → List ℕ → List ℕ
+withUser user s = set (take 15 s) 4 2 ++ (user ∷ drop 15 s)
 
 -- the bytes of a relation: owner, set; sets here have attributes 0 to 7 only
 abbrev pub aRelation : ℕ → ℕ → List ℕ

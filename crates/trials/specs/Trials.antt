@@ -11,12 +11,13 @@ use Rattle.laws.specs.Trials.{Trial, trial, Says, answers, verdict, rows}
 use Rattle.sets.specs.Sets.{unions}
 use Rattle.night.specs.declared.Header.{Header}
 use Rattle.night.specs.declared.Node.{Node}
+use Rattle.night.specs.Versions.{known, headerLength}
 use Rattle.night.specs.Night.{Night, relationOf, grantOf, nodeOf, stepPrice, linkPrice}
 use Rattle.night.specs.Kinds.{visible, taken}
 use Rattle.night.specs.Views.{isFor, viewOf}
 use Rattle.night.specs.Promised.{Promised}
 use Rattle.rules.specs.Rules.{countsBad, relationBad, leftOver, grantBad, ownerBad, shapeBad, leafBad, stepBad, neededBad, mostForStep, mostForLink}
-use Rattle.layout.specs.Layout.{headerLength, fileLength, headerOf, nightOf}
+use Rattle.layout.specs.Layout.{fileLength, headerOf, nightOf}
 use Rattle.trials.specs.declared.Section.{Section}
 use Rattle.trials.specs.declared.Section.the-variants.{Relations, Grants, Owners, Nodes, Parents, Prices}
 
@@ -24,9 +25,9 @@ use Rattle.trials.specs.declared.Section.the-variants.{Relations, Grants
 unfoldable pub notMarked : List ℕ → Bool
 notMarked s = anyOf (ltb (length s) 3 ∷ not (eqb (getD s 0 0) 65) ∷ not (eqb (getD s 1 0) 88) ∷ not (eqb (getD s 2 0) 80) ∷ [])
 
--- 2: fewer than 5 bytes, or version not 1
+-- 2: fewer than 5 bytes, or a version that isn't known
 unfoldable pub notVersioned : List ℕ → Bool
-notVersioned s = anyOf (ltb (length s) 5 ∷ not (eqb (headerOf s .version) 1) ∷ [])
+notVersioned s = anyOf (ltb (length s) 5 ∷ not (known (headerOf s .version)) ∷ [])
 
 -- 1, 2, 3 for a header cut short, 4, and then 3 for a length other than the counts give
 unfoldable pub headerTrials : List ℕ → List Trial

@@ -4,9 +4,10 @@ use mathlib.Core.Path.{_≡_}
 use mathlib.Core.List.{List, [], _∷_, _++_}
 use lib.ListN.{take, set}
 use Rattle.laws.specs.Trials.{answers, refuses}
+use Rattle.layout.specs.Layout.{headerOf}
 use Rattle.trials.specs.Trials.{checkOf}
 use Rattle.trials.specs.Sample.{sample}
-use Rattle.trials.specs.Small.{small, relationByte, grantByte, nodeByte, priceByte, parentless, twoParentless}
+use Rattle.trials.specs.Small.{small, withUser, relationByte, grantByte, nodeByte, priceByte, parentless, twoParentless}
 
 -- the file is refused with this number and place
 abbrev pub Refused : List ℕ → ℕ → ℕ → Type 0
@@ -15,32 +16,45 @@ Refused s number place = checkOf s ≡ refuses number place
 -- 1 to 11
 pub record FileVerdicts : Type 0 where
   -- accepted: the small file, and the sample night
-  pub accepted : checkOf small ≡ answers (record { version = 1; subjects = 2; relations = 2; attributes = 2; nodes = 4; grants = 4; steps = 6 })
-  pub sample-accepted : checkOf sample ≡ answers (record { version = 1; subjects = 6; relations = 2; attributes = 6; nodes = 6; grants = 14; steps = 76 })
+  pub accepted : checkOf small ≡ answers (record { version = 1; subjects = 2; relations = 2; attributes = 2; nodes = 4; grants = 4; steps = 6; user = 0 })
+  pub sample-accepted :
+      checkOf sample ≡ answers (record { version = 1; subjects = 6; relations = 2; attributes = 6; nodes = 6; grants = 14; steps = 76; user = 0 })
+  -- in version 2, the small file with a user; in version 1 none is read, whatever stands behind the steps allowed
+  pub user-accepted :
+      checkOf (withUser 1 small) ≡ answers (record { version = 2; subjects = 2; relations = 2; attributes = 2; nodes = 4; grants = 4; steps = 6; user = 1 })
+  pub user-unread : headerOf (set small (relationByte 0 0) 9) .user ≡ 0
   -- 1: fewer than 3 bytes, or not the mark; before 2
   pub mark-short : Refused (take 2 small) 1 0
   pub mark-first : Refused (set small 0 66) 1 0
   pub mark-second : Refused (set small 1 89) 1 0
   pub mark-third : Refused (set small 2 81) 1 0
-  pub mark-before-version : Refused (set (set small 2 81) 4 2) 1 0
-  -- 2: fewer than 5 bytes, or version not 1; before 3
+  pub mark-before-version : Refused (set (set small 2 81) 4 3) 1 0
+  -- 2: fewer than 5 bytes, or version neither 1 nor 2; before 3
   pub version-short : Refused (take 4 small) 2 0
-  pub version-other : Refused (set small 4 2) 2 0
+  pub version-none : Refused (set small 4 0) 2 0
+  pub version-other : Refused (set small 4 3) 2 0
   pub version-high : Refused (set small 3 1) 2 0
-  pub version-before-header : Refused (take 14 (set small 4 2)) 2 0
-  -- 3: fewer than 15 bytes; before 4
+  pub version-high-user : Refused (set (withUser 0 small) 3 1) 2 0
+  pub version-before-header : Refused (take 14 (set small 4 3)) 2 0
+  -- 3: fewer than 15 bytes, in version 2 than 16; before 4
   pub header-short : Refused (take 14 small) 3 0
   pub header-before-counts : Refused (take 14 (set small 5 0)) 3 0
-  -- 4: a count outside its limits; before 3 for the length
+  pub user-short : Refused (take 15 (withUser 0 small)) 3 0
+  pub user-before-counts : Refused (take 15 (set (withUser 0 small) 5 0)) 3 0
+  -- 4: a count outside its limits, or a user not below s; before 3 for the length
   pub subjects-none : Refused (set small 5 0) 4 0
   pub relations-many : Refused (set small 6 17) 4 0
   pub attributes-many : Refused (set small 7 65) 4 0
   pub nodes-many : Refused (set small 8 65) 4 0
   pub grants-many : Refused (set (set small 9 1) 10 17) 4 0
   pub counts-before-length : Refused (take 15 (set small 5 0)) 4 0
+  pub user-missing : Refused (withUser 2 small) 4 0
+  pub user-any : Refused (withUser 255 small) 4 0
+  pub user-before-length : Refused (take 16 (withUser 2 small)) 4 0
   -- 3, after 4: a length other than the counts give; before 5
   pub length-less : Refused (take 264 small) 3 0
   pub length-more : Refused (small ++ (0 ∷ [])) 3 0
+  pub user-length-less : Refused (take 265 (withUser 0 small)) 3 0
   pub length-before-relations : Refused (take 264 (set small (relationByte 0 0) 2)) 3 0
   -- 5: a relation's owner, its set empty, with an attribute not below a, or with one already taken; the relation's number, the lowest first
   pub owner-missing : Refused (set small (relationByte 1 0) 2) 5 1

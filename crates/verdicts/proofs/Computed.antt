@@ -8,26 +8,36 @@ use Rattle.laws.specs.Sums.{sum}
 use Rattle.laws.specs.Trials.{verdict, rows}
 use Rattle.laws.specs.Upwards.{upwards}
 use Rattle.sets.specs.Sets.{bit, member, union, meet, minus, within, apart, below, single, size, unions}
+use Rattle.night.specs.Versions.{known, delivers, headerLength}
 use Rattle.night.specs.Night.{relationOf, grantOf, nodeOf, stepPrice, linkPrice}
 use Rattle.night.specs.Kinds.{usesLeft, usesRight, usesX, usesY, usesSet, reads, readTogether, visibleAfter, visibleStep, visibles, isChild, taken}
 use Rattle.night.specs.Views.{isFor, grantFor, viewOf, clearOf, sealedOf}
-use Rattle.rules.specs.Rules.{countsBad, relationBad, leftOver, subjectThere, grantBad, ownerBad, childBad, leftBad, rightBad, unusedBad, shapeBad, leafBad, xBad, yBad, setBad, placeBad, stepBad, half, neededBad, mostForStep, mostForLink}
+use Rattle.rules.specs.Rules.{userBad, countsBad, relationBad, leftOver, subjectThere, grantBad, ownerBad, childBad, leftBad, rightBad, unusedBad, shapeBad, leafBad, xBad, yBad, setBad, placeBad, stepBad, half, neededBad, mostForStep, mostForLink}
 use Rattle.layout.specs.Layout.{grantsFrom, nodesFrom, stepPricesFrom, linkPricesFrom, fileLength, headerOf, relationAt, grantAt, nodeAt, pricesAt, nightIn}
 use Rattle.model.specs.Ties.{gathered, tie, merged}
 use Rattle.model.specs.Tables.{leastView, tests, ties, joined, result, leafTable, stepTable, tableStep, tables, tableOf}
 use Rattle.model.specs.Candidates.{clearOffends, sealedOffends, tiedOffends, may, mayTake, isCandidate, candidateSet}
 use Rattle.model.specs.Choice.{weight, stepsAt, steps}
 use Rattle.trials.specs.Trials.{notMarked, notVersioned, headerTrials, takenBefore, pairSeen, isLeafOf, leafBefore, attributesBad, priceIn, mostIn, countIn, trialsOf, section, recordTrials, treeTrials, trials}
+use Rattle.trials.specs.Small.{small}
 use Rattle.trials.proofs.Computed.{file-verdicts}
-use Rattle.verdicts.specs.Refusals.{withoutCandidate, candidateTrials, stepsTrials, offerBad, offerTrials, choiceRoomTrials, planRoomTrials, keysRoomTrials, cheapestTrials, cheapestPlanTrials, offeredTrials, offeredPlanTrials, noStep, askedTrials, whyTrials}
+use Rattle.verdicts.specs.Refusals.{keptFromUser, userTrials, choiceTrials, withoutCandidate, candidateTrials, stepsTrials, offerBad, offerTrials, choiceRoomTrials, planRoomTrials, keysRoomTrials, cheapestTrials, cheapestPlanTrials, offeredTrials, offeredPlanTrials, noStep, askedTrials, whyTrials}
 use Rattle.verdicts.specs.Verdicts.{Verdicts}
 
 pub verdicts : Verdicts
-unfolding anyOf be first somewhere verdict rows upwards bit member union meet minus within apart below single unions relationOf grantOf nodeOf stepPrice linkPrice usesLeft usesRight usesX usesY usesSet reads readTogether visibleAfter visibleStep visibles isChild taken isFor grantFor viewOf countsBad relationBad leftOver subjectThere grantBad ownerBad childBad leftBad rightBad unusedBad shapeBad leafBad xBad yBad setBad placeBad stepBad half neededBad mostForStep mostForLink grantsFrom nodesFrom stepPricesFrom linkPricesFrom fileLength headerOf relationAt grantAt nodeAt pricesAt nightIn notMarked notVersioned headerTrials takenBefore pairSeen isLeafOf leafBefore attributesBad priceIn mostIn countIn trialsOf section recordTrials treeTrials trials ones sum size clearOf sealedOf gathered tie merged leastView tests ties joined result leafTable stepTable tableStep tables tableOf clearOffends sealedOffends tiedOffends may mayTake isCandidate candidateSet weight stepsAt steps withoutCandidate candidateTrials stepsTrials offerBad offerTrials choiceRoomTrials planRoomTrials keysRoomTrials cheapestTrials cheapestPlanTrials offeredTrials offeredPlanTrials noStep askedTrials whyTrials
+unfolding anyOf be first somewhere verdict rows upwards bit member union meet minus within apart below single unions relationOf grantOf nodeOf stepPrice linkPrice usesLeft usesRight usesX usesY usesSet reads readTogether visibleAfter visibleStep visibles isChild taken isFor grantFor viewOf known delivers headerLength userBad countsBad relationBad leftOver subjectThere grantBad ownerBad childBad leftBad rightBad unusedBad shapeBad leafBad xBad yBad setBad placeBad stepBad half neededBad mostForStep mostForLink grantsFrom nodesFrom stepPricesFrom linkPricesFrom fileLength headerOf relationAt grantAt nodeAt pricesAt nightIn notMarked notVersioned headerTrials takenBefore pairSeen isLeafOf leafBefore attributesBad priceIn mostIn countIn trialsOf section recordTrials treeTrials trials ones sum size clearOf sealedOf gathered tie merged leastView tests ties joined result leafTable stepTable tableStep tables tableOf clearOffends sealedOffends tiedOffends may mayTake isCandidate candidateSet weight stepsAt steps keptFromUser userTrials choiceTrials withoutCandidate candidateTrials stepsTrials offerBad offerTrials choiceRoomTrials planRoomTrials keysRoomTrials cheapestTrials cheapestPlanTrials offeredTrials offeredPlanTrials noStep askedTrials whyTrials small
 verdicts =
     record {
       file = file-verdicts;
       file-before-candidates = refl;
+      user-may = refl;
+      user-blind = refl;
+      user-sealed = refl;
+      file-before-user = refl;
+      user-before-candidates = refl;
+      user-before-steps = refl;
+      user-leaf-alone = refl;
+      user-before-rooms = refl;
       candidate-none = refl;
       candidates-before-steps = refl;
       steps-enough = refl;
@@ -43,6 +53,10 @@ verdicts =
       plan-by-nodes = refl;
       keys-by-attributes = refl;
       file-before-offer = refl;
+      file-before-offer-user = refl;
+      user-before-offer-length = refl;
+      user-before-offer = refl;
+      user-offers = refl;
       offer-enough = refl;
       offer-without-candidate = refl;
       offer-shorter = refl;
@@ -59,6 +73,7 @@ verdicts =
       offered-plan-before-keys = refl;
       file-before-asked = refl;
       asked = refl;
+      user-unasked = refl;
       asked-without-candidate = refl;
       asked-leaf = refl;
       asked-past = refl;

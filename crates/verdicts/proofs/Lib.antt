@@ -1,3 +1,4 @@
 -- The table of verdicts, computed.
 pub mod Computed
 pub mod Fit
+pub mod User

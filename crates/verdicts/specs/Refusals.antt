@@ -1,18 +1,32 @@
--- Document 01's refusals 12 to 15 and ticket 2026-01's 16 as trials, and the row of each entry: the trials of the file, then its own.
+-- Document 01's refusals 12 to 15, ticket 2026-01's 16 and ticket 2026-02's 17 as trials, and the row of each entry: the trials of the file, then its own.
 use Prim.Native.Nat.{ℕ, _*_}
 use mathlib.Core.Bool.{Bool, true, false, not}
 use mathlib.Core.List.{List, [], _∷_, _++_}
 use lib.Dec.{eqb, ltb}
 use lib.ListN.{length, getD}
 use Rattle.laws.specs.Choose.{if_then_else_, anyOf}
-use Rattle.laws.specs.Trials.{Trial, trial, rows}
+use Rattle.laws.specs.Trials.{Trial, trial, Says, verdict, rows}
 use Rattle.sets.specs.Sets.{member}
+use Rattle.night.specs.declared.Header.{Header}
+use Rattle.night.specs.Versions.{delivers}
 use Rattle.night.specs.Night.{Night, nodeOf}
 use Rattle.night.specs.Kinds.{aLeaf}
-use Rattle.layout.specs.Layout.{nightOf}
-use Rattle.model.specs.Candidates.{candidateSet}
+use Rattle.night.specs.Views.{clearOf, sealedOf}
+use Rattle.layout.specs.Layout.{headerOf, nightOf}
+use Rattle.model.specs.Tables.{tableOf}
+use Rattle.model.specs.Candidates.{may, candidateSet}
 use Rattle.model.specs.Choice.{ownerOf, steps}
 use Rattle.trials.specs.Trials.{trials}
+
+-- 17: in a version with a user, node i is a leaf whose table, as the leaf holds it, all in clear, the user may not have
+unfoldable pub keptFromUser : Night → ℕ → Bool
+keptFromUser N i =
+    if delivers (N .header .version) then
+    if eqb (nodeOf N i .kind) aLeaf then not (may (tableOf N i) (clearOf N (N .header .user)) (sealedOf N (N .header .user))) else false else
+    false
+
+unfoldable pub userTrials : Night → List Trial
+userTrials N = rows (N .header .nodes) (λ i. trial (keptFromUser N i) 17 i ∷ [])
 
 -- 12: a step without candidate
 unfoldable pub withoutCandidate : Night → ℕ → Bool
@@ -58,18 +72,26 @@ pub record Rooms : Type 0 where
   pub plan : List ℕ
   pub keys : List ℕ
 
--- the cheapest choice: 1 to 11, 12, 13
+-- both choices begin with 1 to 11, 17
+unfoldable pub choiceTrials : List ℕ → List Trial
+choiceTrials s = trials s ++ userTrials (nightOf s)
+
+-- the verdict of these: the header's values, or the refusal
+unfoldable pub choosingOf : List ℕ → Says Header
+choosingOf s = verdict (choiceTrials s) (headerOf s)
+
+-- the cheapest choice: 1 to 11, 17, 12, 13
 unfoldable pub cheapestTrials : List ℕ → List Trial
-cheapestTrials s = trials s ++ (candidateTrials (nightOf s) ++ stepsTrials (nightOf s))
+cheapestTrials s = choiceTrials s ++ (candidateTrials (nightOf s) ++ stepsTrials (nightOf s))
 
 -- with its plan, filling all three rooms: 15 after these
 unfoldable pub cheapestPlanTrials : List ℕ → Rooms → List Trial
 cheapestPlanTrials s rooms =
     cheapestTrials s ++ (choiceRoomTrials (nightOf s) (rooms .choice) ++ (planRoomTrials (nightOf s) (rooms .plan) ++ keysRoomTrials (nightOf s) (rooms .keys)))
 
--- an offered choice: 1 to 11, 14
+-- an offered choice: 1 to 11, 17, 14
 unfoldable pub offeredTrials : List ℕ → List ℕ → List Trial
-offeredTrials s offer = trials s ++ offerTrials (nightOf s) offer
+offeredTrials s offer = choiceTrials s ++ offerTrials (nightOf s) offer
 
 -- with its plan, filling plan and keys: 15 after these; the room for the choice is not asked
 unfoldable pub offeredPlanTrials : List ℕ → List ℕ → Rooms → List Trial

@@ -1,10 +1,10 @@
--- The table of verdicts: each number of document 01 and of ticket 2026-01 with its place, and, where two conditions hold, the earlier one.
+-- The table of verdicts: each number of document 01 and of tickets 2026-01 and 2026-02 with its place, and, where two conditions hold, the earlier one.
 use Prim.Native.Nat.{ℕ}
 use mathlib.Core.Path.{_≡_}
 use mathlib.Core.List.{List, [], _∷_, _++_}
 use lib.ListN.{set, replicate}
 use Rattle.laws.specs.Trials.{Says, answers, refuses, verdict}
-use Rattle.trials.specs.Small.{aRelation, aGrant, aNode}
+use Rattle.trials.specs.Small.{withUser, aRelation, aGrant, aNode, small}
 use Rattle.trials.specs.Verdicts.{FileVerdicts}
 use Rattle.verdicts.specs.Refusals.{Rooms, cheapestPlanTrials, offeredPlanTrials, whyTrials}
 
@@ -29,6 +29,12 @@ leafAlone =
     65 ∷ 88 ∷ 80 ∷ 0 ∷ 1 ∷ 1 ∷ 1 ∷ 1 ∷ 1 ∷ 0 ∷ 1 ∷ 0 ∷ 0 ∷ 0 ∷ 0
     ∷ (aRelation 0 1 ++ aGrant 0 0 1 0 ++ aNode 0 255 255 0 255 1 0 ++ replicate 8 0)
 
+-- the same of two subjects, of whom subject 1 sees nothing
+abbrev pub leafOfTwo : List ℕ
+leafOfTwo =
+    65 ∷ 88 ∷ 80 ∷ 0 ∷ 1 ∷ 2 ∷ 1 ∷ 1 ∷ 1 ∷ 0 ∷ 1 ∷ 0 ∷ 0 ∷ 0 ∷ 0
+    ∷ (aRelation 0 1 ++ aGrant 0 0 1 0 ++ aNode 0 255 255 0 255 1 0 ++ replicate 24 0)
+
 -- a leaf of subject 0 and a select over it, which subject 0 alone may run, of two: one step; it asks for rooms of 2, 4 and 2
 abbrev pub selected : ℕ → List ℕ
 selected allowed =
@@ -47,8 +53,17 @@ unseen allowed =
 pub record Verdicts : Type 0 where
   -- 1 to 11
   pub file : FileVerdicts
-  -- the cheapest choice: 1 to 11, 12, 13, 15; the last price of the file is not 0, no step is allowed, no room is lent
+  -- the cheapest choice: 1 to 11, 17, 12, 13, 15; the last price of the file is not 0, no step is allowed, no room is lent
   pub file-before-candidates : cheapest (set (unseen 0) 264 1) (room 0 0 0) ≡ refuses 11 13
+  -- 17: a leaf that the user may not have, though it sees it sealed; the lowest such node; before 12, 13 and 15; nobody is asked in version 1
+  pub user-may : cheapest (withUser 0 (selected 1)) (room 2 4 2) ≡ answers tt
+  pub user-blind : cheapest (withUser 1 (selected 1)) (room 2 4 2) ≡ refuses 17 0
+  pub user-sealed : cheapest (withUser 0 small) (room 4 8 4) ≡ refuses 17 1
+  pub file-before-user : cheapest (set (withUser 0 (unseen 0)) 265 1) (room 0 0 0) ≡ refuses 11 13
+  pub user-before-candidates : cheapest (withUser 0 (unseen 1)) (room 5 10 4) ≡ refuses 17 2
+  pub user-before-steps : cheapest (withUser 1 (selected 0)) (room 2 4 2) ≡ refuses 17 0
+  pub user-leaf-alone : cheapest (withUser 1 leafOfTwo) (room 1 2 2) ≡ refuses 17 0
+  pub user-before-rooms : cheapest (withUser 1 (selected 1)) (room 0 0 0) ≡ refuses 17 0
   -- 12: a step without candidate; the lowest node; before 13 and 15
   pub candidate-none : cheapest (unseen 1) (room 5 10 4) ≡ refuses 12 3
   pub candidates-before-steps : cheapest (unseen 0) (room 0 0 0) ≡ refuses 12 3
@@ -67,8 +82,12 @@ pub record Verdicts : Type 0 where
   -- plan and keys are as long as nodes and attributes ask, two numbers for each
   pub plan-by-nodes : cheapest (selected 1) (room 2 3 2) ≡ refuses 15 2
   pub keys-by-attributes : cheapest (selected 1) (room 2 4 1) ≡ refuses 15 3
-  -- an offered choice: 1 to 11, 14, 15; neither 12 nor 13 is asked, nor the room for the choice
+  -- an offered choice: 1 to 11, 17, 14, 15; neither 12 nor 13 is asked, nor the room for the choice
   pub file-before-offer : offered (set (selected 0) 129 1) [] (room 0 0 0) ≡ refuses 11 7
+  pub file-before-offer-user : offered (set (withUser 1 (selected 0)) 130 1) [] (room 0 0 0) ≡ refuses 11 7
+  pub user-before-offer-length : offered (withUser 1 (selected 0)) [] (room 0 0 0) ≡ refuses 17 0
+  pub user-before-offer : offered (withUser 0 (unseen 1)) (1 ∷ 0 ∷ 1 ∷ 0 ∷ 0 ∷ []) (room 0 10 4) ≡ refuses 17 2
+  pub user-offers : offered (withUser 0 (selected 0)) (0 ∷ 0 ∷ []) (room 0 4 2) ≡ answers tt
   pub offer-enough : offered (selected 0) (0 ∷ 0 ∷ []) (room 0 4 2) ≡ answers tt
   pub offer-without-candidate : offered (unseen 0) (0 ∷ 0 ∷ 1 ∷ 0 ∷ 0 ∷ []) (room 0 10 4) ≡ refuses 14 3
   -- 14: length not n; n; before the subjects and 15
@@ -86,9 +105,10 @@ pub record Verdicts : Type 0 where
   pub offered-plan-short : offered leafAlone (0 ∷ []) (room 1 1 2) ≡ refuses 15 2
   pub offered-keys-short : offered leafAlone (0 ∷ []) (room 1 2 1) ≡ refuses 15 3
   pub offered-plan-before-keys : offered leafAlone (0 ∷ []) (room 1 1 1) ≡ refuses 15 2
-  -- why a subject is out: 1 to 11, 16; neither 12 nor 13 is asked
+  -- why a subject is out: 1 to 11, 16; neither 12 nor 13 nor 17 is asked
   pub file-before-asked : why (set (selected 0) 129 1) 0 2 ≡ refuses 11 7
   pub asked : why (selected 0) 1 1 ≡ answers tt
+  pub user-unasked : why (withUser 1 (selected 0)) 1 1 ≡ answers tt
   pub asked-without-candidate : why (unseen 0) 3 0 ≡ answers tt
   -- 16: a node that is no step, or a subject that isn't there; the node asked for, also where its last byte alone would be a step
   pub asked-leaf : why (selected 1) 0 0 ≡ refuses 16 0

@@ -1,1 +1,1 @@
-// No code: refusals 12 to 16, and the row of trials of each entry.
+// No code: refusals 12 to 17, and the row of trials of each entry.

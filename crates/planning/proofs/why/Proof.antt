@@ -8,7 +8,7 @@ use Rattle.layout.specs.Layout.{nightIn}
 use Rattle.model.specs.Reasons.{standing}
 use Rattle.laws.specs.Trials.{answers}
 use Rattle.reading.specs.Answers.{saidOf}
-use Rattle.choosing.proofs.Answered.{sound-night}
+use Rattle.trials.proofs.Promises.{accepted-sound}
 use Rattle.planning.specs.Answers.{whySaid}
 use Rattle.planning.proofs.Questions.{asked-both, why-unread, why-unasked, why-answered, told-said}
 use Rattle.planning.proofs.why.Statement.{statement}
@@ -53,7 +53,7 @@ cast-overall c =
     let b = n .before .before in
     let a = b .before .before .args in
     let h = n .answer .given .0 .0 in
-    let sound = sound-night (now (a .file)) h (sym (b .check .ensures) ∙ ap saidOf (n .answer .given .1)) in
+    let sound = accepted-sound (now (a .file)) h (sym (b .check .ensures) ∙ ap saidOf (n .answer .given .1)) in
     let there = asked-both (nightIn (now (a .file)) h) (a .node) (a .subject) (sym (c .before .not-asked .ensures) ∙ c .if1 .left) .1 in
     omega (arith, there, sound .counts .subjects-most)
 
@@ -68,7 +68,7 @@ standing-requires c κs =
     let b = n .before .before in
     let a = b .before .before .args in
     let h = n .answer .given .0 .0 in (
-      sound-night (now (a .file)) h (sym (b .check .ensures) ∙ ap saidOf (n .answer .given .1)),
+      accepted-sound (now (a .file)) h (sym (b .check .ensures) ∙ ap saidOf (n .answer .given .1)),
       asked-both (nightIn (now (a .file)) h) (a .node) (a .subject) (sym (e .before .not-asked .ensures) ∙ e .if1 .left) .0,
     )
 

@@ -26,17 +26,21 @@ two-requires-2 c κs = search needs
 four-requires : tie.Need-four-requires
 four-requires c κs = search needs
 
+user-requires : tie.Need-user-requires
+user-requires c κs = search needs
+
 returns : tie.Need-returns
 returns c =
-    let b = c .before .before .before .before in
+    let b = c .before .before .before .before .before in
     header-made (now (b .before .before .before .before .args .file))
     (b .before .before .two .ensures)
     (b .before .byte .ensures)
     (b .byte2 .ensures)
-    (c .before .before .before .byte3 .ensures)
-    (c .before .before .byte4 .ensures)
-    (c .before .two2 .ensures)
-    (c .four .ensures)
+    (c .before .before .before .before .byte3 .ensures)
+    (c .before .before .before .byte4 .ensures)
+    (c .before .before .two2 .ensures)
+    (c .before .four .ensures)
+    (c .user .ensures)
 
 pub header-spec : {M : Type 1} → statement M
 header-spec =
@@ -49,4 +53,5 @@ header-spec =
     byte-requires-4
     two-requires-2
     four-requires
+    user-requires
     returns)

@@ -13,9 +13,12 @@ returns c = search cases depth 20
 header-requires : tie.Need-header-requires
 header-requires c κs = search needs
 
+known-requires : tie.Need-known-requires
+known-requires c κs = search needs
+
 returns-2 : tie.Need-returns-2
 unfolding notVersioned anyOf
-returns-2 c = rw (← c .before .header .ensures) (search cases depth 20)
+returns-2 c = rw (← c .before .header .ensures, ← c .known .ensures) (search cases depth 20)
 
 pub not-versioned-spec : {M : Type 1} → statement M
-not-versioned-spec = tie.close (tie.spec returns header-requires returns-2)
+not-versioned-spec = tie.close (tie.spec returns header-requires known-requires returns-2)

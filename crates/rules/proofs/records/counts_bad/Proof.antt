@@ -1,4 +1,5 @@
 -- The tests are the definition's, in its order.
+use borrow.Author.Needs.{needs}
 use mathlib.Core.Path.{_≡_}
 use mathlib.Core.Bool.{true}
 use native.Mathlib.Omega.{arith}
@@ -50,9 +51,12 @@ returns-9 c =
     let many : ltb 272 (a .h .grants) ≡ true = lt-ltb 272 (a .h .grants) (omega arith) in
     search cases depth 20
 
+user-bad-requires : tie.Need-user-bad-requires
+user-bad-requires c κs = search needs
+
 returns-10 : tie.Need-returns-10
 unfolding countsBad anyOf
-returns-10 c = search cases depth 20
+returns-10 c = rw (← c .user-bad .ensures) (search cases depth 20)
 
 pub counts-bad-spec : {M : Type 1} → statement M
 counts-bad-spec =
@@ -67,4 +71,5 @@ counts-bad-spec =
     returns-7
     returns-8
     returns-9
+    user-bad-requires
     returns-10)

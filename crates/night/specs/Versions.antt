@@ -1,0 +1,27 @@
+-- What each version of the file has. A version keeps all earlier additions. Nothing else compares version numbers.
+use Prim.Native.Nat.{ℕ}
+use mathlib.Core.Bool.{Bool}
+use mathlib.Core.List.{[], _∷_}
+use lib.Dec.{eqb, ltb}
+use Rattle.laws.specs.Choose.{if_then_else_, anyOf}
+
+-- the versions that are read
+unfoldable pub known : ℕ → Bool
+known version = anyOf (eqb version 1 ∷ eqb version 2 ∷ [])
+
+-- from version 2 on the header names the user, to whom the root's table is delivered
+unfoldable pub delivers : ℕ → Bool
+delivers version = ltb 1 version
+
+-- lengths of the header and of each record
+unfoldable pub headerLength : ℕ → ℕ
+headerLength version = if delivers version then 16 else 15
+
+abbrev pub relationLength : ℕ → ℕ
+relationLength version = 9
+
+abbrev pub grantLength : ℕ → ℕ
+grantLength version = 18
+
+abbrev pub nodeLength : ℕ → ℕ
+nodeLength version = 28
