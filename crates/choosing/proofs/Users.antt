@@ -19,10 +19,9 @@ use Rattle.night.specs.Versions.{delivers}
 use Rattle.night.specs.Night.{Night, nodeOf}
 use Rattle.night.specs.Views.{clearOf, sealedOf}
 use Rattle.layout.specs.Layout.{headerOf, nightIn, nightOf}
-use Rattle.run.specs.Linked.{Chain, one, step}
 use Rattle.model.specs.Tables.{leafTable, tableOf}
 use Rattle.model.specs.Candidates.{May, may}
-use Rattle.model.proofs.Chains.{untied-classes}
+use Rattle.model.proofs.Chains.{unlinked, untied-classes}
 use Rattle.model.proofs.May.{may-exactly}
 use Rattle.model.proofs.Sees.{may-sees, sees-may}
 use Rattle.model.proofs.TableLaws.{table-leaf}
@@ -30,11 +29,6 @@ use Rattle.trials.specs.Trials.{trials, checkOf}
 use Rattle.trials.proofs.Opened.{accepted-header}
 use Rattle.verdicts.specs.Refusals.{keptFromUser, userTrials, choiceTrials, choosingOf}
 use Rattle.choosing.specs.Kept.{keptBack}
-
--- nothing is linked where nothing is tied
-unlinked : {a b : ℕ} → Chain (λ m. ⊥) a b → ⊥
-unlinked (one r h k) = r
-unlinked (step c r h k) = r
 
 -- a leaf's table may be had just where its set is seen in clear
 leaf-may : (v : Node) (P E : ℕ) → Within (v .set) P → May (leafTable v) P E

@@ -1,6 +1,6 @@
 -- The group of an attribute, where all that is ever sealed is worked out once; and the delivery, which seals nothing.
 use Prim.Native.Nat.{ℕ}
-use mathlib.Core.Path.{_≡_, ap, _∙_}
+use mathlib.Core.Path.{_≡_, refl, ap, _∙_}
 use mathlib.Core.List.{List}
 use lib.ListN.{getD}
 use Rattle.laws.specs.Choose.{if_then_else_}
@@ -8,7 +8,7 @@ use Rattle.sets.specs.Sets.{member, union, meet, apart, single}
 use Rattle.night.specs.Kinds.{attribute}
 use Rattle.run.specs.Keys.{everSealed, holdersOf}
 use Rattle.model.proofs.TableLaws.{union-none}
-use Rattle.model.proofs.Keyed.{ever-append, holders-append}
+use Rattle.model.proofs.Keyed.{ever-idle, holders-append}
 use Rattle.keying.specs.declared.keys.Delivery.{Delivery}
 use Rattle.keying.specs.Nodes.{nodeEvents, eventsTo}
 
@@ -17,8 +17,8 @@ groupAmong tied sealed k = if member sealed k then meet sealed (union (attribute
 
 -- with the delivery, as much is sealed as without
 pub ever-to : (subjects opens seals : List ℕ) (n : ℕ) (d : Delivery) → everSealed (eventsTo subjects opens seals n d) ≡ everSealed (nodeEvents subjects opens seals n)
-unfolding eventsTo everSealed
-ever-to subjects opens seals n d = ever-append (nodeEvents subjects opens seals n) _ ∙ rw (union-none 0) (union-none _)
+unfolding eventsTo
+ever-to subjects opens seals n d = ever-idle (nodeEvents subjects opens seals n) _ refl
 
 -- and the user is one more holder, where it opens one of the group
 pub holders-to : (subjects opens seals : List ℕ) (n : ℕ) (d : Delivery) (group : ℕ)

@@ -1,6 +1,6 @@
 -- What is delivered sealed by the built plan is what the root's table has sealed, since the root seals nothing.
 use Prim.Native.Nat.{ℕ, _+_, _-_, _<_}
-use mathlib.Core.Path.{_≡_, refl, _∙_}
+use mathlib.Core.Path.{_≡_, refl, sym, _∙_}
 use mathlib.Core.Bool.{Bool, true, false}
 use mathlib.Core.Logic.{_⊎_, inr, ⊎-elim}
 use native.Mathlib.Omega.{arith}
@@ -14,10 +14,12 @@ use Rattle.night.specs.Night.{Night, nodeOf}
 use Rattle.night.specs.Kinds.{attribute, visible}
 use Rattle.night.specs.Promised.{Promised}
 use Rattle.night.proofs.Visible.{visible-below}
-use Rattle.run.specs.Run.{absent, clear, sealed, isSealed, resultOf, leaving, delivered, sealedIn}
+use Rattle.run.specs.Run.{clear, sealed, isSealed, resultOf, leaving, delivered, sealedIn}
 use Rattle.model.specs.Tables.{leafTable, tableOf}
 use Rattle.model.specs.Choice.{Choice}
 use Rattle.model.specs.Plan.{sealings, built}
+use Rattle.model.proofs.Parents.{root-there}
+use Rattle.model.proofs.Lowest.{clash}
 use Rattle.model.proofs.TableLaws.{table-leaf}
 use Rattle.model.proofs.Shown.{shown-visible, step-clear, step-sealed}
 use Rattle.model.proofs.HeldLaws.{held-absent}
@@ -34,7 +36,7 @@ module _ (N : Night) (sound : Promised N) (c : Choice) where
   n = N .header .nodes
 
   last : n - 1 < n
-  last = omega (arith, sound .counts .nodes-some)
+  last = root-there N sound
 
   -- the root hands over its result as it is
   as-made : (a : ℕ) → delivered N (built N c) .column a ≡ resultOf N (built N c) (n - 1) .column a
@@ -61,17 +63,11 @@ module _ (N : Night) (sound : Promised N) (c : Choice) where
 
   -- a column that is sealed is one that the table has so
   from-column : (a : ℕ) → isSealed (delivered N (built N c) .column a) ≡ true → In a (tableOf N (n - 1) .sealed)
-  from-column a e = ⊎-elim seen (λ out. absurd (none (rw (as-made a, held-absent N (built N c) sound (n - 1) a last out) at e))) (in-or-not a (visible N (n - 1)))
+  from-column a e = ⊎-elim seen (λ out. absurd (clash (sym (rw (as-made a, held-absent N (built N c) sound (n - 1) a last out) at e)))) (in-or-not a (visible N (n - 1)))
     where
-      none : isSealed absent ≡ true → ⊥
-      none q = let z : _≡_ {A = ℕ} 0 1 = cc in omega arith
-
-      open-not : isSealed clear ≡ true → ⊥
-      open-not q = let z : _≡_ {A = ℕ} 0 1 = cc in omega arith
-
       seen : In a (visible N (n - 1)) → In a (tableOf N (n - 1) .sealed)
       seen h =
-          ⊎-elim (λ w. absurd (open-not (rw (as-made a, w .1) at e)))
+          ⊎-elim (λ w. absurd (clash (sym (rw (as-made a, w .1) at e))))
           (λ w. ⊎-elim (λ k. absurd (w .0 k)) (λ k. k) (in-union (tableOf N (n - 1) .clear) (tableOf N (n - 1) .sealed) a .0 (rw (← shown-visible N sound (n - 1) last) at h)))
           (formed N sound c (n - 1) a last h)
 

@@ -59,13 +59,13 @@ blank zero k = refl
 blank (suc n) zero = refl
 blank (suc n) (suc k) = blank n k
 
--- at the start nothing is linked
+-- nothing is linked where nothing is tied, as at the start
+pub unlinked : {i j : ℕ} → Chain (λ m. ⊥) i j → ⊥
+unlinked (one t hi hj) = t
+unlinked (step c t hj hk) = t
+
 pub untied-classes : Classes (λ m. ⊥) untied
-untied-classes = record { small = λ m t. absurd t; linked = λ i j h. absurd (in-none j (rw (blank 64 i) at h)); held = λ i j c. absurd (none c) }
-  where
-    none : {i j : ℕ} → Chain (λ m. ⊥) i j → ⊥
-    none (one t hi hj) = t
-    none (step c t hj hk) = t
+untied-classes = record { small = λ m t. absurd t; linked = λ i j h. absurd (in-none j (rw (blank 64 i) at h)); held = λ i j c. absurd (unlinked c) }
 
 -- members of what is gathered: those of the set, and those of the tied sets that it meets
 gathered-set : (t : List ℕ) (s n j : ℕ) → In j s → In j (gathered t s n)

@@ -12,7 +12,7 @@ use Rattle.night.specs.Kinds.{isChild}
 use Rattle.night.specs.Promised.{Promised}
 use Rattle.model.specs.Choice.{Choice, Admissible, AllHave, handed, total, Earlier, Least, LeastThere}
 use Rattle.model.specs.Dp.{subjectsOf, handedOn, noRow, bestChild, costRows, bestLast, chosen}
-use Rattle.model.proofs.Parents.{child-lower}
+use Rattle.model.proofs.Parents.{root-there, child-lower}
 use Rattle.model.proofs.Lowest.{Found, best-found, found-some}
 use Rattle.model.proofs.Follows.{chosen-follows}
 use Rattle.model.proofs.CostRows.{costOf, leastChild, subject-low, subject-leaf, subject-step, subject-in, subject-some, child-found}
@@ -31,7 +31,7 @@ module _ (N : Night) (sound : Promised N) (some : AllHave N) where
   c i = getD (chosen N) i 0
 
   last : n - 1 < n
-  last = omega (arith, sound .counts .nodes-some)
+  last = root-there N sound
 
   -- a search among a node's subjects finds one
   child-there : (k s : ℕ) → k < n → bestChild N (costRows N) k s .found ≡ true

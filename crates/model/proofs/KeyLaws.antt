@@ -1,6 +1,6 @@
 -- The keys of the run: attributes that a chain of ties links share one, and who opens one of them holds it.
 use Prim.Native.Nat.{ℕ, zero, suc, _<_, _≤_}
-use mathlib.Core.Path.{_≡_, refl, sym, ap, _∙_}
+use mathlib.Core.Path.{_≡_, refl, sym, ap}
 use mathlib.Core.Bool.{Bool, true, false}
 use mathlib.Core.List.{List, [], _∷_, _++_, append-nil}
 use mathlib.Core.Logic.{_⊎_, inl, inr, ⊎-elim, _↔_}
@@ -20,8 +20,7 @@ use Rattle.run.specs.Keys.{Plan, Event, events, everSealed, groupOf, keyName, h
 use Rattle.run.specs.Run.{Some, reached, keyOf, delivered, sealedIn, deliveries, allEvents, holders}
 use Rattle.model.proofs.Chains.{chain-join, chain-back, chain-low}
 use Rattle.model.proofs.PastLaws.{some-append}
-use Rattle.model.proofs.TableLaws.{union-none}
-use Rattle.model.proofs.Keyed.{ever-append}
+use Rattle.model.proofs.Keyed.{ever-idle}
 use Rattle.model.proofs.Reached.{TiedBelow, tied-low, reached-exactly}
 
 -- one of a list that says each entry by its number
@@ -122,11 +121,11 @@ module _ (N : Night) (sound : Promised N) (p : Plan) where
 
   -- the delivery seals nothing, so groups are as without it
   same-ever : everSealed (allEvents N p) ≡ ever
-  unfolding allEvents deliveries everSealed
+  unfolding allEvents deliveries
   same-ever = go (delivers (N .header .version))
     where
       go : (b : Bool) → everSealed (events N p ++ (if b then record { subject = N .header .user; opened = sealedIn N (delivered N p); sealed = 0 } ∷ [] else [])) ≡ ever
-      go true = ever-append (events N p) _ ∙ rw (union-none 0) (union-none _)
+      go true = ever-idle (events N p) _ refl
       go false = ap everSealed (append-nil (events N p))
 
   same-group : (k : ℕ) → groupOf (reached N) (allEvents N p) k ≡ groupOf (reached N) (events N p) k

@@ -44,6 +44,11 @@ pub ever-append : (xs ys : List Event) → everSealed (xs ++ ys) ≡ union (ever
 unfolding everSealed
 ever-append xs ys = gathered-append everSealed (λ e. e .sealed) refl (λ e es. refl) xs ys
 
+-- an event that seals nothing adds nothing to what is sealed
+pub ever-idle : (es : List Event) (e : Event) → e .sealed ≡ 0 → everSealed (es ++ (e ∷ [])) ≡ everSealed es
+unfolding everSealed
+ever-idle es e z = ever-append es (e ∷ []) ∙ rw (z, union-none 0) (union-none (everSealed es))
+
 pub holders-append : (xs ys : List Event) (group : ℕ) → holdersOf (xs ++ ys) group ≡ union (holdersOf xs group) (holdersOf ys group)
 unfolding holdersOf
 holders-append xs ys group =

@@ -7,23 +7,22 @@ use mathlib.Core.Logic.{_⊎_, inl, inr, ⊎-elim, _↔_}
 use native.Mathlib.Omega.{arith}
 use lib.Dec.{ltb}
 use borrow.Author.Tests.{ltb-true, ltb-false}
-use Rattle.sets.specs.Sets.{In, union}
+use Rattle.sets.specs.Sets.{union}
 use Rattle.sets.proofs.Members.{same-members, in-union}
 use Rattle.night.specs.Night.{Night, nodeOf}
 use Rattle.night.specs.Kinds.{attribute}
 use Rattle.night.specs.Promised.{Promised}
 use Rattle.night.proofs.Children.{is-child}
-use Rattle.run.specs.Linked.{Chain}
 use Rattle.model.specs.Ties.{Classes}
 use Rattle.model.specs.Tables.{tableOf, TiedAt, here, under-left, under-right}
-use Rattle.run.specs.Keys.{Plan, Event, groupOf, keyName, keyHolders}
+use Rattle.run.specs.Keys.{Event, groupOf, keyName, keyHolders}
 use Rattle.model.specs.Plan.{rootTied, nameIn, holdersIn}
 use Rattle.run.specs.Run.{Tied, reached, keyOf, holders, resultOf}
 use Rattle.model.specs.Demand.{KeysAgree, ReachedMeaning}
 use Rattle.model.proofs.Chains.{chain-map}
 use Rattle.model.proofs.Meaning.{tied-meaning}
 use Rattle.model.proofs.PastLaws.{past-tied}
-use Rattle.model.proofs.Parents.{child-lower}
+use Rattle.model.proofs.Parents.{root-there, child-lower}
 use Rattle.model.proofs.Reached.{TiedBelow, reached-exactly}
 
 module _ (N : Night) (sound : Promised N) where
@@ -51,7 +50,7 @@ module _ (N : Night) (sound : Promised N) where
           rw last h
 
   last : n - 1 < n
-  last = omega (arith, sound .counts .nodes-some)
+  last = root-there N sound
 
   root-ties : (m : ℕ) → TiedAt N (n - 1) m ↔ TiedBelow N n m
   root-ties m = (tied-somewhere last, λ w. tied-root n (w .0) m (w .1) (omega arith) (here (w .2)))

@@ -95,6 +95,10 @@ operand-share : (f : ℕ → ℕ) (k m : ℕ) (a : Bool) → (a ≡ true → k <
 operand-share f k m true l = sum-pick (λ c. if eqb k c then f c else 0) k m (l refl) (λ c h q. rw (ne-eqb k c (λ e. q (sym e))) refl) ∙ rw (eq-eqb k k refl) refl
 operand-share f k m false l = sum-zero (λ c. 0) m (λ c h. refl)
 
+-- the root is a node
+pub root-there : (N : Night) → Promised N → N .header .nodes - 1 < N .header .nodes
+root-there N sound = omega (arith, sound .counts .nodes-some)
+
 module _ (N : Night) (sound : Promised N) where
   -- a child is lower
   pub child-lower : (i k : ℕ) → i < N .header .nodes → isChild (nodeOf N i) k ≡ true → k < i

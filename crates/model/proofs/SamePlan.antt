@@ -14,6 +14,7 @@ use Rattle.night.specs.Promised.{Promised}
 use Rattle.run.specs.Keys.{Plan, Event, events}
 use Rattle.model.specs.Choice.{Choice}
 use Rattle.model.specs.Plan.{built, nameIn, holdersIn, planRoom, keysRoom}
+use Rattle.model.proofs.Parents.{root-there}
 use Rattle.model.proofs.Turns.{turn-same}
 use Rattle.run.specs.Run.{Held, keyOf, holders, sealedUnder, nothing, leaving, openedBy, arriving, heldStep, helds, resultOf, leftArrives, rightArrives, leftOpened, rightOpened, arrived, opened, delivered, received, deliveries, allEvents, Stuck, seals-unclear, opens-unsealed, opens-unheld, needs-unclear, mixes, ForbiddenAt, left-arrives, right-arrives, left-opened, right-opened, result-made, DeliveryFails, user-takes, user-opens, user-unheld, Clean}
 
@@ -106,7 +107,7 @@ module _ (N : Night) (p q : Plan) (alike : Alike N p q) where
 
     -- the same is delivered
     last : n - 1 < n
-    last = omega (arith, sound .counts .nodes-some)
+    last = root-there N sound
 
     delivered-same : delivered N p ≡ delivered N q
     unfolding delivered

@@ -27,6 +27,7 @@ use Rattle.model.specs.Choice.{Choice, ownerOf}
 use Rattle.model.specs.Plan.{built}
 use Rattle.model.specs.Demand.{Assigned}
 use Rattle.model.specs.User.{UserMay, UserCandidate, AlwaysDelivered}
+use Rattle.model.proofs.Parents.{root-there}
 use Rattle.model.proofs.TableLaws.{table-leaf}
 use Rattle.model.proofs.Kept.{left-step, right-step}
 use Rattle.model.proofs.Sees.{may-sees}
@@ -144,7 +145,7 @@ module _ (N : Night) (sound : Promised N) (P E : ℕ) (leaves : (i : ℕ) → i 
         (λ a h. there-unsealed (member (p .seals (n - 1)) a) (keyOf N p a) (resultOf N p (n - 1) .column a) (there-unopened (delivered N p .column a) h)))
       where
         last : n - 1 < n
-        last = omega (arith, sound .counts .nodes-some)
+        last = root-there N sound
 
     step-fine : (i : ℕ) → i < n → clearOf N (p .subject i) ≡ P → sealedOf N (p .subject i) ≡ E → ForbiddenAt N p i → ⊥
     unfolding leftOpened rightOpened
@@ -259,7 +260,7 @@ module _ (N : Night) (sound : Promised N) (may : UserMay N) (d : delivers (N .he
       rw (w .0) (user-held N sound p a d few among (w .1) low)
     where
       last : N .header .nodes - 1 < N .header .nodes
-      last = omega (arith, sound .counts .nodes-some)
+      last = root-there N sound
 
       known-last : (key ≡ keyOf N p a) × In a (ever N sound p)
       known-last = known N sound p a (N .header .nodes - 1) last key e

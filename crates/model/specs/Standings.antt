@@ -49,7 +49,10 @@ joins needed tested needs unused =
 
 -- attribute 1 is compared with itself and then dropped; node 3 tests 0
 abbrev pub itself : Night
-itself = nodesOf 4 (aNode 0 255 255 0 255 (these (0 ∷ 1 ∷ [])) 0 ∷ aNode 3 0 255 1 1 0 0 ∷ aNode 1 1 255 255 255 (these (0 ∷ [])) 0 ∷ aNode 2 2 255 0 255 0 0 ∷ [])
+itself =
+    nodesOf 4
+    (aNode 0 255 255 0 255 (these (0 ∷ 1 ∷ [])) 0 ∷ aNode 3 0 255 1 1 0 0
+    ∷ aNode 1 1 255 255 255 (these (0 ∷ [])) 0 ∷ aNode 2 2 255 0 255 0 0 ∷ [])
 
 -- the join needs its attributes, and node 6 the one that it tests; or neither does
 abbrev pub inClear : Night

@@ -20,17 +20,13 @@ use Rattle.model.specs.Plan.{openings, sealings, built, rootTied, nameIn, holde
 use Rattle.model.proofs.Built.{opens-needed, seals-clear}
 use Rattle.model.proofs.BuiltDelivered.{delivered-sealed}
 use Rattle.model.proofs.TableLaws.{union-none}
-use Rattle.model.proofs.Keyed.{ever-append, holders-append}
+use Rattle.model.proofs.Keyed.{ever-idle, holders-append}
 use Rattle.model.proofs.Turns.{turn-same}
 use Rattle.keying.specs.declared.keys.Delivery.{Delivery}
 use Rattle.keying.specs.Nodes.{nodeEvents, eventsTo}
 use Rattle.keying.specs.Parts.{deliveryOf}
 
 -- an event that opens and seals nothing changes no holder
-idle-seals : (user : ℕ) → everSealed (record { subject = user; opened = 0; sealed = 0 } ∷ []) ≡ 0
-unfolding everSealed
-idle-seals user = union-none 0
-
 idle-holds : (user group : ℕ) → holdersOf (record { subject = user; opened = 0; sealed = 0 } ∷ []) group ≡ 0
 unfolding holdersOf
 idle-holds user group = rw (union-none 0, apart-exactly group 0 .1 (λ a h q. in-none a q)) (union-none 0)
@@ -43,7 +39,7 @@ idle-more tied es user k = rw same-ever same-holders
     idle = record { subject = user; opened = 0; sealed = 0 } ∷ []
 
     same-ever : everSealed (es ++ idle) ≡ everSealed es
-    same-ever = ever-append es idle ∙ rw (idle-seals user) (union-none (everSealed es))
+    same-ever = ever-idle es _ refl
 
     same-holders : holdersOf (es ++ idle) (groupOf tied es k) ≡ holdersOf es (groupOf tied es k)
     same-holders = holders-append es idle (groupOf tied es k) ∙ rw (idle-holds user (groupOf tied es k)) (union-none (holdersOf es (groupOf tied es k)))

@@ -67,7 +67,9 @@ fn fill_pairs(room: &mut [u64], first: [u64; 64], second: [u64; 64], n: u8)
 // The plan's room, and the keys' room, for the choice with these subjects.
 pub(crate) fn fill_plan(file: &[u8], h: Header, choice: &[u8], plan: &mut [u64], keys: &mut [u64])
     requires { ⌜ Promised (nightIn (now file) h) × (2 * h .nodes ≤ length (now plan)) × (2 * h .attributes ≤ length (now keys)) ⌝ }
-    ensures { λ _. ⌜ WrittenFor (nightIn (now (file .entry)) h) h (now (choice .entry)) (now (plan .entry)) (now (plan .exit)) (now (keys .entry)) (now (keys .exit)) ⌝ }
+    ensures { λ _. ⌜ WrittenFor (nightIn (now (file .entry)) h) h (now (choice .entry))
+        (now (plan .entry)) (now (plan .exit))
+        (now (keys .entry)) (now (keys .exit)) ⌝ }
 {
     let opens = built::all_opens(file, h);
     let seals = built::all_seals(file, h);
