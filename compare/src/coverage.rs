@@ -12,7 +12,7 @@ use crate::whys::SORTS;
 /// From so many cases on, with one large file in so many, each line of the
 /// table has to reach its floor: a bit less than what such runs reach.
 pub const FULL: usize = 100_000;
-pub const FULL_LARGE: usize = 100;
+pub const FULL_LARGE: usize = 50;
 
 /// Floors for refusals 1 to 15.
 const LEAST_REFUSED: [usize; 15] = [
@@ -21,13 +21,13 @@ const LEAST_REFUSED: [usize; 15] = [
 ];
 /// Floors for kinds 0 to 8.
 const LEAST_OF_KIND: [usize; 9] =
-    [90_000, 42_000, 64_000, 42_000, 10_000, 19_000, 42_000, 21_000, 42_000];
+    [96_000, 47_500, 73_000, 48_000, 11_500, 22_500, 48_000, 23_500, 48_000];
 /// Floors for the slips, in the order of their names.
 const LEAST_SHOWN: [usize; slips::NAMES.len()] =
-    [21_500, 7_700, 570, 40, 880, 8_800, 8_200, 2_800, 13_000, 3_800];
+    [21_800, 8_200, 750, 40, 1_000, 9_000, 8_700, 3_500, 13_300, 4_200];
 /// Floors for the sorts of answers to why a subject is out.
 const LEAST_OF_SORT: [usize; SORTS.len()] =
-    [640_000, 210_000, 140_000, 46_000, 6_400, 9_500, 2_050, 9_400, 118_000, 470_000, 260_000];
+    [690_000, 268_000, 155_000, 62_000, 7_600, 10_200, 2_650, 10_100, 123_000, 470_000, 260_000];
 
 /// From so many nodes and subjects on an answered file counts as broad, and
 /// from so many nodes on an accepted offer as one on a long file.
@@ -95,6 +95,7 @@ pub struct Coverage {
     refusals: [usize; 18],
     kinds: [usize; 9],
     readable: usize,
+    at_the_limits: usize,
     answered: usize,
     pub enumerated: usize,
     pub tied_totals: usize,
@@ -151,6 +152,7 @@ impl Coverage {
     /// A readable file, and all that fails for each of those asked about.
     pub fn read(&mut self, study: &Study, asked: &[Vec<Failing>]) {
         self.readable += 1;
+        self.at_the_limits += count(at_the_limits(study));
         self.wide_ties += count(study.widest_tie() >= WIDE_TIE);
         for (slip, shown) in self.slips.iter_mut().zip(slips::shown(study, asked)) {
             *slip += count(shown);
@@ -193,7 +195,7 @@ impl Coverage {
         }
         let contested = |list: &&Vec<usize>| !list.is_empty() && list.len() < subjects;
         self.broad.answered += 1;
-        self.broad.at_the_limits += count(nodes == MOST_NODES && subjects == MOST_SUBJECTS);
+        self.broad.at_the_limits += count(at_the_limits(study));
         self.broad.with_opening += count(study.plan.opens.iter().any(|opens| !opens.is_empty()));
         self.broad.with_sealed_view += count(study.meets_sealed(&answer.choice));
         self.broad.with_shared_key += count(answer.keys.iter().any(shared));
@@ -230,6 +232,7 @@ impl Coverage {
         let mut lines = numbered("cases with refusal", 1, &self.refusals[1..16], &LEAST_REFUSED);
         lines.push(line("cases with refusal 17", self.refusals[17], 3_600));
         lines.push(line("readable files", self.readable, 59_000));
+        lines.push(line("readable files, 64 nodes and 16 subjects", self.at_the_limits, 240));
         lines.extend(numbered("nodes in readable files of kind", 0, &self.kinds, &LEAST_OF_KIND));
         lines.extend(self.lines_of_answers());
         lines.extend(self.lines_of_broad());
@@ -246,41 +249,41 @@ impl Coverage {
     fn lines_of_answers(&self) -> [Line; 13] {
         [
             line("steps without a candidate", self.without_candidates, 7_500),
-            line("steps with several candidates", self.several_candidates, 170_000),
-            line("files with a root tied set of 5 or more", self.wide_ties, 1_400),
-            line("cheapest answered", self.answered, 33_000),
+            line("steps with several candidates", self.several_candidates, 205_000),
+            line("files with a root tied set of 5 or more", self.wide_ties, 1_850),
+            line("cheapest answered", self.answered, 33_300),
             line(
                 "cheapest answered, another if compared from the first node",
                 self.order_matters,
-                1_050,
+                1_190,
             ),
-            line("cheapest answered, total beyond 32 bits", self.wide_totals, 15),
-            line("cheapest answered, a root tied set of 5 or more", self.answered_wide_ties, 750),
+            line("cheapest answered, total beyond 32 bits", self.wide_totals, 50),
+            line("cheapest answered, a root tied set of 5 or more", self.answered_wide_ties, 1_150),
             line("cheapest found by enumeration and by recursion", self.enumerated, 51_000),
             line("cheapest so found, several of the least total", self.tied_totals, 11_000),
-            line("offers accepted", self.accepted_offers, 31_000),
-            line("offers accepted, 20 nodes or more", self.accepted_long_offers, 1_200),
-            line("offers accepted, 64 nodes", self.accepted_longest_offers, 10),
-            line("keys of several attributes", self.shared_keys, 27_000),
+            line("offers accepted", self.accepted_offers, 31_500),
+            line("offers accepted, 20 nodes or more", self.accepted_long_offers, 1_900),
+            line("offers accepted, 64 nodes", self.accepted_longest_offers, 200),
+            line("keys of several attributes", self.shared_keys, 30_500),
         ]
     }
 
     fn lines_of_broad(&self) -> [Line; 6] {
         let broad = &self.broad;
         [
-            line("broad (40 nodes and 10 subjects or more) answered", broad.answered, 550),
-            line("broad answered, 64 nodes and 16 subjects", broad.at_the_limits, 10),
-            line("broad answered, something opened", broad.with_opening, 390),
+            line("broad (40 nodes and 10 subjects or more) answered", broad.answered, 1_030),
+            line("broad answered, 64 nodes and 16 subjects", broad.at_the_limits, 180),
+            line("broad answered, something opened", broad.with_opening, 700),
             line(
                 "broad answered, a chosen subject that sees sealed alone",
                 broad.with_sealed_view,
-                310,
+                640,
             ),
-            line("broad answered, a key of several attributes", broad.with_shared_key, 490),
+            line("broad answered, a key of several attributes", broad.with_shared_key, 910),
             line(
                 "steps in broad answered, for some subjects but not all",
                 broad.contested_steps,
-                20_000,
+                47_500,
             ),
         ]
     }
@@ -292,11 +295,11 @@ impl Coverage {
             .map(|((sort, count), least)| line(&format!("asked why: {sort}"), count, least))
             .collect();
         lines.extend([
-            line("asked why: one named of several that offend", whys.several_offend, 118_000),
-            line("asked why: one named that is implicit alone", whys.implicit_alone, 106_000),
-            line("asked why: a tied set of 3 or more named", whys.wide_ties, 21_000),
-            line("asked why: a tied set named, not all of it visible", whys.faded_ties, 30_000),
-            line("asked why: a tied set named, another fails too", whys.ties_behind, 3_600),
+            line("asked why: one named of several that offend", whys.several_offend, 168_000),
+            line("asked why: one named that is implicit alone", whys.implicit_alone, 159_000),
+            line("asked why: a tied set of 3 or more named", whys.wide_ties, 31_500),
+            line("asked why: a tied set named, not all of it visible", whys.faded_ties, 43_000),
+            line("asked why: a tied set named, another fails too", whys.ties_behind, 7_700),
         ]);
         lines
     }
@@ -340,6 +343,10 @@ pub fn told(lines: &[Line], floors: bool) -> Result<(), String> {
         }
     }
     if thin.is_empty() { Ok(()) } else { Err(thin) }
+}
+
+fn at_the_limits(study: &Study) -> bool {
+    study.file.nodes.len() == MOST_NODES && study.file.subjects == MOST_SUBJECTS
 }
 
 fn shared(key: &Key) -> bool {

@@ -31,19 +31,20 @@ const ROUND: usize = 50;
 /// How many cases in a row damage the same file: more than it has faults.
 const FAULT_SPAN: usize = 500;
 const CUT_SPAN: usize = 500;
-/// Up to so many nodes, the candidates of all are asked; of more, of so many:
-/// for each node the library works out all tables below it anew.
+/// Up to so many nodes, why is asked of every subject at each step; of more, of so
+/// many subjects: each question checks the whole file anew, and a file at its
+/// limits would take some 800 of them.
 const ALL_ASKED: usize = 24;
-const SOME_ASKED: usize = 8;
+const SOME_ASKED: usize = 3;
 /// Of a hundred large files, so many of each size. Most are served, so that
-/// they are answered; the sizes are those that the library plans quickly.
+/// they are answered.
 const LARGE: [(usize, &str, Size, bool); 6] = [
-    (62, "broad", Size::Broad, true),
-    (26, "middle", Size::Middle, true),
-    (4, "large served", Size::Large, true),
-    (4, "large", Size::Large, false),
-    (2, "longest served", Size::Longest, true),
-    (2, "longest", Size::Longest, false),
+    (40, "broad", Size::Broad, true),
+    (17, "middle", Size::Middle, true),
+    (20, "large served", Size::Large, true),
+    (8, "large", Size::Large, false),
+    (11, "longest served", Size::Longest, true),
+    (4, "longest", Size::Longest, false),
 ];
 /// The longest file that the program `answers` takes.
 pub const LONGEST_TAKEN: usize = 12_288;
@@ -270,7 +271,7 @@ fn finish(rng: &mut Rng, family: &'static str, file: Vec<u8>, fits: bool) -> Cas
     let asked = asked(rng, study.as_ref().map_or(1, |study| study.file.nodes.len()));
     let bare = rng.pick(&[0, 0, 1, usize::MAX]);
     let questions = match &study {
-        Some(study) => questions(rng, &study.file, &asked),
+        Some(study) => questions(rng, &study.file),
         None => {
             let number = rng.pick(&[0, 64, u32::MAX]);
             [0, number].map(|number| Question { node: number, subject: number }).to_vec()
@@ -279,17 +280,22 @@ fn finish(rng: &mut Rng, family: &'static str, file: Vec<u8>, fits: bool) -> Cas
     Case { family, file, offer, rooms, fill, asked, questions, bare }
 }
 
-/// Every subject at each step of those asked, the leaves, and numbers that are
-/// not there: among them some that would be if they were cut to 8 or 16 bits.
-fn questions(rng: &mut Rng, file: &File, asked: &[usize]) -> Vec<Question> {
+/// Every subject at each step or some, the leaves, and numbers that are not there:
+/// among them some that would be if they were cut to 8 or 16 bits.
+fn questions(rng: &mut Rng, file: &File) -> Vec<Question> {
     let (nodes, subjects) = (file.nodes.len() as u32, file.subjects as u32);
     let (leaves, steps): (Vec<u32>, Vec<u32>) =
         (0..nodes).partition(|&node| file.nodes[node as usize].work.is_leaf());
     let some_step = |rng: &mut Rng| if steps.is_empty() { 0 } else { rng.pick(&steps) };
     let some_subject = |rng: &mut Rng| rng.below(file.subjects) as u32;
     let mut out = vec![Question { node: nodes, subject: subjects }];
-    for &node in steps.iter().filter(|&&node| asked.contains(&(node as usize))) {
-        out.extend((0..subjects).map(|subject| Question { node, subject }));
+    for &node in &steps {
+        let mut asked: Vec<u32> = (0..subjects).collect();
+        if file.nodes.len() > ALL_ASKED {
+            rng.shuffle(&mut asked);
+            asked.truncate(SOME_ASKED);
+        }
+        out.extend(asked.into_iter().map(|subject| Question { node, subject }));
     }
     let cut = [1 << 8, 1 << 16].map(|past| past + some_step(rng));
     let no_steps = [nodes, nodes + 1, 255, 256, u32::MAX].into_iter().chain(cut).chain(leaves);
@@ -302,15 +308,9 @@ fn questions(rng: &mut Rng, file: &File, asked: &[usize]) -> Vec<Question> {
     out
 }
 
-/// Nodes of the file, the number after the last, and one far past it.
+/// Every node of the file, the number after the last, and one far past it.
 fn asked(rng: &mut Rng, count: usize) -> Vec<usize> {
-    let mut nodes: Vec<usize> = (0..count).collect();
-    if count > ALL_ASKED {
-        rng.shuffle(&mut nodes);
-        nodes.truncate(SOME_ASKED);
-    }
-    nodes.extend([count, rng.pick(&[count + 1, 255, 1 << 32, usize::MAX])]);
-    nodes
+    (0..=count).chain([rng.pick(&[count + 1, 255, 1 << 32, usize::MAX])]).collect()
 }
 
 fn offer(rng: &mut Rng, study: &Study, fits: bool) -> Vec<u8> {

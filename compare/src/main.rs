@@ -11,6 +11,7 @@ mod file;
 mod generate;
 #[cfg(feature = "library")]
 mod library;
+mod longest;
 mod night;
 mod planner;
 mod plans;
@@ -61,6 +62,7 @@ struct Options {
     why: Option<String>,
     night: Option<String>,
     night2: Option<String>,
+    longest: Option<(String, usize)>,
     alone: bool,
 }
 
@@ -75,6 +77,7 @@ fn options() -> Result<Options, String> {
         why: None,
         night: None,
         night2: None,
+        longest: None,
         alone: false,
     };
     let mut words = std::env::args().skip(1);
@@ -88,6 +91,7 @@ fn options() -> Result<Options, String> {
             "--why" => options.why = Some(value()?),
             "--night" => options.night = Some(value()?),
             "--night2" => options.night2 = Some(value()?),
+            "--longest" => options.longest = Some((value()?, number(value()?)? as usize)),
             "--cases" => options.cases = number(value()?)? as usize,
             "--seed" => options.seed = number(value()?)?,
             "--lines" => options.lines = number(value()?)? as usize,
@@ -95,8 +99,8 @@ fn options() -> Result<Options, String> {
             _ => return Err(format!("{word}: no such option")),
         }
     }
-    if !options.alone && LINKED.is_none() {
-        return Err("built without the library: only --alone can be run".into());
+    if !options.alone && options.longest.is_none() && LINKED.is_none() {
+        return Err("built without the library: only --alone and --longest can be run".into());
     }
     Ok(options)
 }
@@ -251,15 +255,22 @@ impl Runner {
     }
 }
 
+/// Does what is asked and says how it ended.
+fn done(options: Options) -> Result<String, String> {
+    if let Some((folder, count)) = &options.longest {
+        longest::write(folder, *count, options.seed)?;
+        return Ok(format!("{count} files written"));
+    }
+    let (coverage, stream) = (Coverage::default(), answers::Stream::default());
+    let (plans, whys) = (plans::starts(), whys::starts());
+    Runner { options, coverage, stream, plans, whys, in_library: Duration::ZERO }.all()?;
+    Ok("no difference".into())
+}
+
 fn main() -> ExitCode {
-    let done = options().and_then(|options| {
-        let (coverage, stream) = (Coverage::default(), answers::Stream::default());
-        let (plans, whys) = (plans::starts(), whys::starts());
-        Runner { options, coverage, stream, plans, whys, in_library: Duration::ZERO }.all()
-    });
-    match done {
-        Ok(()) => {
-            println!("no difference");
+    match options().and_then(done) {
+        Ok(text) => {
+            println!("{text}");
             ExitCode::SUCCESS
         }
         Err(text) => {

@@ -13,7 +13,7 @@ use crate::userslips;
 const LEAST_OF_VERSION: usize = 100;
 /// Floors for the slips, in the order of their names.
 const LEAST_SHOWN: [usize; userslips::NAMES.len()] =
-    [26_000, 11_200, 3_600, 2_100, 1_800, 120, 300, 1_600, 5_700, 2_500, 3_100, 500, 13_000, 8_200];
+    [26_000, 11_300, 3_600, 2_100, 1_800, 120, 300, 1_600, 5_700, 2_500, 3_350, 500, 13_000, 8_200];
 
 /// What is counted of headers that are refused.
 #[derive(Default)]
@@ -158,11 +158,11 @@ impl Delivered {
         [
             line("cheapest answered in version 2", self.cheapest, 15_000),
             line("offers accepted in version 2", self.offered, 14_300),
-            line("answers in version 2, the user a holder by the delivery alone", self.seen, 8_500),
+            line("answers in version 2, the user a holder by the delivery alone", self.seen, 8_600),
             line("answers in version 2, the user ran the root", self.user_ran_root, 15_500),
-            line("answers in version 2, a step's table delivered all clear", self.all_clear, 3_700),
+            line("answers in version 2, a step's table delivered all clear", self.all_clear, 3_800),
             line("answers in version 2 to a leaf alone", self.leaf_alone, 3_300),
-            line("answers in version 2 for 20 nodes or more", self.long, 1_250),
+            line("answers in version 2 for 20 nodes or more", self.long, 1_880),
         ]
     }
 }

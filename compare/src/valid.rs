@@ -38,7 +38,7 @@ fn shape(rng: &mut Rng, size: Size) -> Shape {
         Size::Even => ((4, 8), 3, 8, (5, 12)),
         Size::Medium => ((1, 9), 8, 24, (1, 24)),
         Size::Middle => ((4, 9), 12, 40, (20, 39)),
-        Size::Broad => ((10, 11), 16, 64, (40, 43)),
+        Size::Broad => ((10, 16), 16, 64, (40, 64)),
         Size::Large => ((8, 16), 16, 64, (24, 64)),
         Size::Longest => ((16, 16), 16, 64, (64, 64)),
     };

@@ -32,8 +32,14 @@ use Rattle.model.proofs.Dp.{dp-least, chosen-total}
 use Rattle.trials.specs.Trials.{checkOf}
 use Rattle.trials.proofs.Opened.{accepted-header}
 use Rattle.trials.proofs.Promises.{accepted-sound}
+use Rattle.reading.specs.declared.Checked.{Checked}
+use Rattle.reading.specs.declared.Checked.the-variants.{Accepted, Refused as NotRead}
+use Rattle.eligible.specs.declared.Built.{Built}
+use Rattle.eligible.specs.Answers.{BuiltFor, notBuilt, PassSays}
+use Rattle.eligible.proofs.Once.{built-same}
 use Rattle.choosing.specs.Answers.{CheapestFor, ChoiceSays, ChoiceOnce, offeredOf, OfferedOnce}
-use Rattle.choosing.specs.Held.{Given}
+use Rattle.choosing.specs.Held.{Given, HasSets}
+use Rattle.choosing.specs.Kept.{ReadWith}
 use Rattle.choosing.specs.declared.Cheapest.the-variants.{Found, Refused}
 use Rattle.choosing.specs.declared.Offered.the-variants.{Costs, Refused as NotCosted}
 
@@ -109,9 +115,9 @@ module _ (N : Night) (offer : List ℕ) where
 
 module _ (s : List ℕ) where
   -- 1 to 11 or 17 refuse
-  pub choice-unread : (n p : ℕ) → choosingOf s ≡ refuses n p → ChoiceSays s (replicate 64 0) (Refused n p)
+  pub choice-unread : (n p : ℕ) → choosingOf s ≡ refuses n p → ChoiceSays s (replicate 64 0) notBuilt (Refused n p)
   unfolding choosingOf cheapestTrials
-  choice-unread n p e = (refused-then (choiceTrials s) _ (headerOf s) (tt {0}) n p e, refl)
+  choice-unread n p e = (refused-then (choiceTrials s) _ (headerOf s) (tt {0}) n p e, refl, refl)
 
   pub offer-unread : (offer : List ℕ) (n p : ℕ) → choosingOf s ≡ refuses n p → offeredOf s offer ≡ refuses n p
   unfolding choosingOf offeredOf offeredTrials
@@ -137,12 +143,16 @@ module _ (s : List ℕ) where
     choice-verdict v q =
         passed-then (choiceTrials s) _ (tt {0}) (tt {0}) read ∙ ap (λ (M : Night). verdict (candidateTrials M ++ stepsTrials M) (tt {0})) same ∙ q
 
-    pub choice-refused : (n p : ℕ) → verdict (candidateTrials (nightIn s h) ++ stepsTrials (nightIn s h)) (tt {0}) ≡ refuses n p → ChoiceSays s (replicate 64 0) (Refused n p)
-    choice-refused n p q = (choice-verdict (refuses n p) q, refl)
+    pub choice-refused : (n p : ℕ) → verdict (candidateTrials (nightIn s h) ++ stepsTrials (nightIn s h)) (tt {0}) ≡ refuses n p
+        → ChoiceSays s (replicate 64 0) notBuilt (Refused n p)
+    choice-refused n p q = (choice-verdict (refuses n p) q, refl, refl)
 
     pub choice-found : (c : List ℕ) (t k : ℕ) → verdict (candidateTrials (nightIn s h) ++ stepsTrials (nightIn s h)) (tt {0}) ≡ answers tt
-        → CheapestFor (nightIn s h) c t k → ChoiceSays s c (Found t k)
-    choice-found c t k q x = (choice-verdict (answers tt) q, rw same x)
+        → CheapestFor (nightIn s h) c t k → {built : Built} → BuiltFor (nightIn s h) built → ChoiceSays s c built (Found t k)
+    choice-found c t k q x b = (choice-verdict (answers tt) q, rw same x, rw same b)
+
+    pub built-found : {built : Built} → BuiltFor (nightIn s h) built → BuiltFor (nightOf s) built
+    built-found b = rw same b
 
     pub offer-refused : (offer : List ℕ) (n p : ℕ) → verdict (offerTrials (nightIn s h) offer) (tt {0}) ≡ refuses n p → offeredOf s offer ≡ refuses n p
     unfolding offeredOf offeredTrials
@@ -165,24 +175,42 @@ same-subjects N xs ys t u k m x y = ext-getD 0 xs ys (x .whole ∙ sym (y .whole
     go j false e = x .past j (ltb-false j (N .header .nodes) e) ∙ sym (y .past j (ltb-false j (N .header .nodes) e))
 
 pub choice-once : ChoiceOnce
-choice-once s xs ys (Found t k) (Found u m) x y =
+choice-once s xs ys b d (Found t k) (Found u m) x y =
     let list : xs ≡ ys = same-subjects (nightOf s) xs ys t u k m (x .1) (y .1) in
     let totals : t ≡ u = x .1 .its-total ∙ ap (λ (zs : List ℕ). total (nightOf s) (λ i. getD zs i 0)) list ∙ sym (y .1 .its-total) in
     let counts : k ≡ m = x .1 .its-steps ∙ sym (y .1 .its-steps) in
-    (rw (totals, counts) refl, list)
-choice-once s xs ys (Found t k) (Refused n p) x y = absurd (never tt n p (sym (y .0) ∙ x .0))
-choice-once s xs ys (Refused n p) (Found t k) x y = absurd (never tt n p (sym (x .0) ∙ y .0))
-choice-once s xs ys (Refused n p) (Refused m q) x y =
+    (rw (totals, counts) refl, list, built-same (nightOf s) b d (x .2) (y .2))
+choice-once s xs ys b d (Found t k) (Refused n p) x y = absurd (never tt n p (sym (y .0) ∙ x .0))
+choice-once s xs ys b d (Refused n p) (Found t k) x y = absurd (never tt n p (sym (x .0) ∙ y .0))
+choice-once s xs ys b d (Refused n p) (Refused m q) x y =
     let both : _≡_ {A = Says (Unit {0})} (refuses n p) (refuses m q) = sym (x .0) ∙ y .0 in
+    let number : n ≡ m = cc in
+    let place : p ≡ q = cc in
+    (rw (number, place) refl, x .1 ∙ sym (y .1), x .2 ∙ sym (y .2))
+
+pub offered-once : OfferedOnce
+offered-once s offer b d (Costs t) (Costs u) x y =
+    let both : _≡_ {A = Says ℕ} (answers t) (answers u) = x .0 ∙ sym (y .0) in
+    let totals : t ≡ u = cc in
+    (ap Costs totals, built-same (nightOf s) b d (x .1) (y .1))
+offered-once s offer b d (Costs t) (NotCosted n p) x y = absurd (never t n p (y .0 ∙ sym (x .0)))
+offered-once s offer b d (NotCosted n p) (Costs u) x y = absurd (never u n p (x .0 ∙ sym (y .0)))
+offered-once s offer b d (NotCosted n p) (NotCosted m q) x y =
+    let both : _≡_ {A = Says ℕ} (refuses n p) (refuses m q) = x .0 ∙ sym (y .0) in
     let number : n ≡ m = cc in
     let place : p ≡ q = cc in
     (rw (number, place) refl, x .1 ∙ sym (y .1))
 
-pub offered-once : OfferedOnce
-offered-once (Costs a) (Costs b) e = let same : a ≡ b = cc in ap Costs same
-offered-once (Costs a) (NotCosted n p) e = absurd (never a n p (sym e))
-offered-once (NotCosted n p) (Costs b) e = absurd (never b n p e)
-offered-once (NotCosted n p) (NotCosted m q) e =
-    let number : n ≡ m = cc in
-    let place : p ≡ q = cc in
-    rw (number, place) refl
+-- what the pass says of the file is what 17 is asked with
+pub read-with : (s sets clear : List ℕ) (built : Built) (a : Checked) → PassSays s sets clear built a → ReadWith s clear a
+read-with s sets clear built (Accepted h) x = (x .0, x .2)
+read-with s sets clear built (NotRead n p) x = x .0
+
+-- and where the file is accepted, the subjects of every node, and what the plan is made of
+pub pass-held : (s sets clear : List ℕ) (built : Built) (a : Checked) (h : Header) → PassSays s sets clear built a → choosingOf s ≡ answers h
+    → HasSets (nightIn s h) sets × BuiltFor (nightIn s h) built
+pass-held s sets clear built (Accepted k) h x e =
+    let both : _≡_ {A = Says Header} (answers k) (answers h) = sym (x .0) ∙ choosing-accepted s h e in
+    let same : k ≡ h = cc in
+    rw (← same) (x .1, x .3)
+pass-held s sets clear built (NotRead n p) h x e = absurd (never h n p (sym (x .0) ∙ choosing-accepted s h e))

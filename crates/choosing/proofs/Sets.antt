@@ -1,18 +1,18 @@
 -- The subjects of every node as the code holds them.
 use Prim.Native.Nat.{ℕ, zero, suc, _^_, _<_, _≤_}
-use mathlib.Core.Path.{_≡_, refl, sym, ap, _∙_}
+use mathlib.Core.Path.{_≡_, refl, sym, _∙_}
 use mathlib.Core.Bool.{Bool, true, false}
 use mathlib.Core.List.{List, [], _∷_}
 use native.Mathlib.Omega.{arith}
 use lib.Dec.{eqb}
 use lib.ListN.{length, getD}
 use lib.Count.{ones-le}
-use borrow.Author.Tests.{eq-eqb, ne-eqb}
+use borrow.Author.Tests.{ne-eqb}
 use Rattle.laws.specs.Choose.{if_then_else_}
 use Rattle.laws.proofs.Upwards.{each-at}
 use Rattle.sets.specs.Sets.{single, size}
 use Rattle.night.specs.declared.Node.{Node}
-use Rattle.night.specs.Night.{Night, relationOf, nodeOf}
+use Rattle.night.specs.Night.{Night, nodeOf}
 use Rattle.night.specs.Kinds.{usesLeft, usesRight}
 use Rattle.night.specs.Promised.{Promised}
 use Rattle.model.specs.Candidates.{candidateSet}
@@ -55,10 +55,6 @@ module _ (N : Night) (sets : List ℕ) (i : ℕ) (has : HasSets N sets) (l : i <
 
 -- node i as it is read
 module _ (N : Night) (i : ℕ) (v : Node) (read : v ≡ nodeOf N i) where
-  pub subjects-leaf : v .kind ≡ 0 → subjectsOf N i ≡ single 16 (relationOf N (v .x) .owner)
-  unfolding subjectsOf
-  subjects-leaf e = ap (λ (b : Bool). if b then single 16 (ownerOf N i) else candidateSet N i) (eq-eqb (nodeOf N i .kind) 0 (rw read at e)) ∙ rw read refl
-
   pub subjects-step : (v .kind ≡ 0 → ⊥) → subjectsOf N i ≡ candidateSet N i
   unfolding subjectsOf
   subjects-step e = rw (← read, ne-eqb (v .kind) 0 e) refl

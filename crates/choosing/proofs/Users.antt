@@ -5,11 +5,14 @@ use mathlib.Core.Bool.{Bool, true, false, not}
 use mathlib.Core.List.{List}
 use native.Mathlib.Omega.{arith}
 use lib.Dec.{eqb}
+use lib.ListN.{getD}
 use borrow.Author.Tests.{eqb-true}
 use Rattle.laws.specs.Choose.{if_then_else_}
 use Rattle.laws.specs.First.{first}
 use Rattle.laws.specs.Trials.{answers, refuses, verdict}
+use Rattle.laws.specs.Upwards.{each}
 use Rattle.laws.proofs.First.{first-same, first-below}
+use Rattle.laws.proofs.Upwards.{each-at}
 use Rattle.laws.proofs.Trials.{passed-then, refused-then, refused-alike, accepted-alike, rows-pass, rows-stop}
 use Rattle.sets.specs.Sets.{Within, within}
 use Rattle.sets.proofs.Members.{within-exactly, in-none}
@@ -27,8 +30,11 @@ use Rattle.model.proofs.Sees.{may-sees, sees-may}
 use Rattle.model.proofs.TableLaws.{table-leaf}
 use Rattle.trials.specs.Trials.{trials, checkOf}
 use Rattle.trials.proofs.Opened.{accepted-header}
+use Rattle.trials.proofs.Promises.{accepted-sound}
 use Rattle.verdicts.specs.Refusals.{keptFromUser, userTrials, choiceTrials, choosingOf}
-use Rattle.choosing.specs.Kept.{keptBack}
+use Rattle.reading.specs.declared.Checked.{Checked}
+use Rattle.reading.specs.declared.Checked.the-variants.{Accepted}
+use Rattle.choosing.specs.Kept.{keptBack, ReadWith}
 
 -- a leaf's table may be had just where its set is seen in clear
 leaf-may : (v : Node) (P E : ℕ) → Within (v .set) P → May (leafTable v) P E
@@ -108,3 +114,14 @@ module _ (s : List ℕ) where
       pub user-passes : h .nodes ≤ kept → choosingOf s ≡ answers h
       unfolding nightIn
       user-passes l = passes (λ i q. first-below (keptFromUser N) (h .nodes) i (omega (arith, same-kept)))
+
+-- an acceptance that was handed in, and what the user sees in clear
+pub read-as : (s clear : List ℕ) (a : Checked) (h : Header) → ReadWith s clear a → a ≡ Accepted h → (checkOf s ≡ answers h) × (clear ≡ each 16 (clearOf (nightIn s h)))
+read-as s clear a h x e = rw e at x
+
+pub user-sees : (s : List ℕ) (h : Header) (clear : List ℕ) → checkOf s ≡ answers h → delivers (h .version) ≡ true → clear ≡ each 16 (clearOf (nightIn s h))
+    → getD clear (h .user) 0 ≡ clearOf (nightIn s h) (h .user)
+unfolding nightIn
+user-sees s h clear e d seen =
+    let sound = accepted-sound s h e in
+    rw seen (each-at (clearOf (nightIn s h)) 0 (h .user) 16 (omega (arith, sound .counts .user-there d, sound .counts .subjects-most)))

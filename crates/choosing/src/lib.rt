@@ -7,9 +7,10 @@ mod steps;
 mod subjects;
 mod user;
 
+use eligible::Built;
 use reading::Checked;
 ghost use mathlib.Core.Path.{_≡_};
-ghost use Rattle.choosing.specs.Answers.{noChoice, notChosen, ChoiceSays, notCosted, offeredSaid, offeredOf};
+ghost use Rattle.choosing.specs.Answers.{noChoice, notChosen, ChoiceSays, noOffer, notCosted, OfferSays};
 
 // What is said of the cheapest choice: its total and the steps, or the refusal.
 pub enum Cheapest {
@@ -17,10 +18,11 @@ pub enum Cheapest {
     Refused { number: u8, place: u32 },
 }
 
-// The answer, and beside it the subject of each node: 0 past the last node, and all 0 with a refusal.
+// The answer, and beside it the subject of each node, 0 past the last node, and what the plan is made of: all empty with a refusal.
 pub struct Chosen {
     pub said: Cheapest,
     pub subjects: [u8; 64],
+    pub built: Built,
 }
 
 // The total of an offered choice, or the refusal.
@@ -29,14 +31,22 @@ pub enum Offered {
     Refused { number: u8, place: u32 },
 }
 
+// The answer to an offer, and beside it what the plan is made of: empty with a refusal.
+pub struct Costed {
+    pub said: Offered,
+    pub built: Built,
+}
+
 // A refusal: no subject is given.
 fn refused(number: u8, place: u32) -> Chosen
     ensures { λ r. ⌜ r ≡ noChoice number place ⌝ }
 {
     let said = Cheapest::Refused { number, place };
+    let built = eligible::not_built();
     Chosen {
         said,
         subjects: [0; 64],
+        built,
     }
 }
 
@@ -52,13 +62,16 @@ fn unread(answer: Checked) -> Chosen
 
 // The cheapest choice, for any bytes. Too few steps allowed is a refusal and carries no choice.
 pub fn cheapest_choice(file: &[u8]) -> Chosen
-    ensures { λ r. ⌜ ChoiceSays (now (file .entry)) (r .subjects) (r .said) ⌝ }
+    ensures { λ r. ⌜ ChoiceSays (now (file .entry)) (r .subjects) (r .built) (r .said) ⌝ }
 {
-    let answer = user::checked(file);
+    let passed = eligible::pass(file);
+    let read = passed.answer;
+    let clear = passed.clear;
+    let answer = user::checked(file, read, clear);
     let Checked::Accepted(h) = answer else {
         return unread(answer);
     };
-    let sets = subjects::all_subjects(file, h);
+    let sets = passed.sets;
     let without = subjects::lowest_without(file, h, sets);
     if without < h.nodes {
         return refused(12, without as u32);
@@ -73,39 +86,53 @@ pub fn cheapest_choice(file: &[u8]) -> Chosen
         steps: counted,
     };
     let subjects = picked.subjects;
-    Chosen { said, subjects }
+    let built = passed.built;
+    Chosen {
+        said,
+        subjects,
+        built,
+    }
+}
+
+// A refusal of an offer: nothing is built.
+fn not_offered(number: u8, place: u32) -> Costed
+    ensures { λ r. ⌜ r ≡ noOffer number place ⌝ }
+{
+    let said = Offered::Refused { number, place };
+    let built = eligible::not_built();
+    Costed { said, built }
 }
 
 // The file's refusal of an offer, passed up. (An acceptance is never handed in.)
-fn not_costed(answer: Checked) -> Offered
+fn not_costed(answer: Checked) -> Costed
     ensures { λ r. ⌜ r ≡ notCosted answer ⌝ }
 {
     match answer {
-        Checked::Refused { number, place } => Offered::Refused { number, place },
-        Checked::Accepted(_) => Offered::Costs(0),
+        Checked::Refused { number, place } => not_offered(number, place),
+        Checked::Accepted(_) => not_offered(0, 0),
     }
 }
 
 // What an offered choice costs, for any bytes and any offer: a subject for each node.
-pub fn offered_choice(file: &[u8], offer: &[u8]) -> Offered
-    ensures { λ r. ⌜ offeredSaid r ≡ offeredOf (now (file .entry)) (now (offer .entry)) ⌝ }
+pub fn offered_choice(file: &[u8], offer: &[u8]) -> Costed
+    ensures { λ r. ⌜ OfferSays (now (file .entry)) (now (offer .entry)) (r .built) (r .said) ⌝ }
 {
-    let answer = user::checked(file);
+    let passed = eligible::pass(file);
+    let read = passed.answer;
+    let clear = passed.clear;
+    let answer = user::checked(file, read, clear);
     let Checked::Accepted(h) = answer else {
         return not_costed(answer);
     };
     if offer.len() != h.nodes as usize {
-        return Offered::Refused {
-            number: 14,
-            place: h.nodes as u32,
-        };
+        return not_offered(14, h.nodes as u32);
     }
-    let bad = offer::lowest_bad(file, h, offer);
+    let sets = passed.sets;
+    let bad = offer::lowest_bad(file, h, sets, offer);
     if bad < h.nodes {
-        return Offered::Refused {
-            number: 14,
-            place: bad as u32,
-        };
+        return not_offered(14, bad as u32);
     }
-    Offered::Costs(offer::total(file, h, offer))
+    let said = Offered::Costs(offer::total(file, h, offer));
+    let built = passed.built;
+    Costed { said, built }
 }

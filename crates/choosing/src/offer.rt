@@ -12,11 +12,11 @@ ghost use Rattle.layout.specs.Layout.{nightIn};
 ghost use Rattle.night.specs.Promised.{Promised};
 ghost use Rattle.model.specs.Choice.{Admissible, handed, costAt, total};
 ghost use Rattle.verdicts.specs.Refusals.{offerBad};
-ghost use Rattle.choosing.specs.Held.{Offering, OfferingChild, handedIf};
+ghost use Rattle.choosing.specs.Held.{HasSets, Offering, OfferingChild, handedIf};
 
 // Whether the subject offered for node i is no candidate, or at a leaf not the owner.
-fn offer_bad(file: &[u8], h: Header, offer: &[u8], i: usize) -> bool
-    requires { ⌜ i < length (now offer) ⌝ }
+fn offer_bad(file: &[u8], h: Header, sets: [u16; 64], offer: &[u8], i: usize) -> bool
+    requires { ⌜ (i < length (now offer)) × (i < 64) × HasSets (nightIn (now file) h) sets ⌝ }
     ensures { λ r. ⌜ r ≡ offerBad (nightIn (now (file .entry)) h) (now (offer .entry)) i ⌝ }
 {
     let p = offer[i];
@@ -25,19 +25,18 @@ fn offer_bad(file: &[u8], h: Header, offer: &[u8], i: usize) -> bool
         let relation = values::relation(file, h, v.x as usize);
         return p != relation.owner;
     }
-    let among = eligible::candidate_set(file, h, i);
-    !subjects::has(among, p)
+    !subjects::has(sets[i], p)
 }
 
 // The lowest node whose offered subject is refused, or the count of nodes where there is none.
-pub(crate) fn lowest_bad(file: &[u8], h: Header, offer: &[u8]) -> u8
-    requires { ⌜ length (now offer) ≡ h .nodes ⌝ }
+pub(crate) fn lowest_bad(file: &[u8], h: Header, sets: [u16; 64], offer: &[u8]) -> u8
+    requires { ⌜ (length (now offer) ≡ h .nodes) × (h .nodes ≤ 64) × HasSets (nightIn (now file) h) sets ⌝ }
     ensures { λ r. ⌜ r ≡ first (offerBad (nightIn (now (file .entry)) h) (now (offer .entry))) (h .nodes) ⌝ }
 {
     let n = h.nodes;
     let mut i: u8 = 0;
     while i < n {
-        if offer_bad(file, h, offer, i as usize) {
+        if offer_bad(file, h, sets, offer, i as usize) {
             return i;
         }
         i += 1;

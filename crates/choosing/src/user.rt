@@ -11,7 +11,7 @@ ghost use Rattle.layout.specs.Layout.{nightIn};
 ghost use Rattle.night.specs.Night.{nodeOf};
 ghost use Rattle.reading.specs.Answers.{saidOf};
 ghost use Rattle.verdicts.specs.Refusals.{choosingOf};
-ghost use Rattle.choosing.specs.Kept.{keptBack};
+ghost use Rattle.choosing.specs.Kept.{keptBack, ReadWith};
 
 // Whether a node is a leaf that holds more than `clear`. A leaf's table has no other part, so condition 1 alone can fail.
 fn kept_back(v: Node, clear: u64) -> bool
@@ -39,18 +39,17 @@ fn lowest_kept(file: &[u8], h: Header, clear: u64) -> u8
 }
 
 // The verdict that both choices begin with: 1 to 11, and in a version with a user 17, since the user must see in clear all that the leaves hold.
-pub(crate) fn checked(file: &[u8]) -> Checked
+pub(crate) fn checked(file: &[u8], answer: Checked, clear: [u64; 16]) -> Checked
+    requires { ⌜ ReadWith (now file) clear answer ⌝ }
     ensures { λ r. ⌜ saidOf r ≡ choosingOf (now (file .entry)) ⌝ }
 {
-    let answer = reading::check(file);
     let Checked::Accepted(h) = answer else {
         return answer;
     };
     if !versions::delivers(h.version) {
         return answer;
     }
-    let view = views::overall(file, h, h.user);
-    let kept = lowest_kept(file, h, view.clear);
+    let kept = lowest_kept(file, h, clear[h.user as usize]);
     if kept < h.nodes {
         return Checked::Refused {
             number: 17,

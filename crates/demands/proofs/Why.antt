@@ -26,9 +26,10 @@ use Rattle.model.proofs.ResultTied.{result-tied}
 use Rattle.trials.specs.Trials.{trials, checkOf}
 use Rattle.trials.proofs.Promises.{accepted-promises}
 use Rattle.verdicts.specs.Refusals.{noStep, askedTrials, whyTrials}
+use Rattle.eligible.proofs.Questions.{unasked, asked-step, asked-both, why-unasked, why-answered}
 use Rattle.planning.specs.Answers.{candidatesOf, whyOf}
 use Rattle.planning.proofs.Answered.{candidates-exactly}
-use Rattle.planning.proofs.Questions.{unasked, asked-step, asked-both, why-unasked, why-answered, why-once}
+use Rattle.planning.proofs.Questions.{why-once}
 use Rattle.tollburrow.specs.Codes.{tableNumber, conditionNumber, namedSet}
 use Rattle.demands.specs.Why.{Asked, OutBy, WhyOut}
 
@@ -68,11 +69,11 @@ module _ (s : List ℕ) where
   own h read = accepted-alike (trials s) (headerOf s) h (headerOf s) read
 
   told : (i p : ℕ) → Asked s i p → whyOf s i p ≡ answers (stands i p)
-  unfolding nightIn
+  unfolding nightIn whyOf
   told i p a = why-answered s i p (headerOf s) (own (a .accepted .0) (a .accepted .1)) (of-asked i p a)
 
   not-told : (h : Header) → checkOf s ≡ answers h → (i p : ℕ) → (Asked s i p → ⊥) → whyOf s i p ≡ refuses 16 i
-  unfolding nightIn
+  unfolding nightIn whyOf
   not-told h read i p unfit = go (unasked N i p) refl
     where
       go : (b : Bool) → unasked N i p ≡ b → whyOf s i p ≡ refuses 16 i

@@ -1,37 +1,43 @@
--- What was asked of a subject is what the definition asks.
-use Prim.Native.Nat.{ℕ}
-use mathlib.Core.Path.{_≡_, _∙_, ap, sym}
-use mathlib.Core.Bool.{Bool, true}
-use borrow.Author.Tests.{ne-eqb}
+-- What is asked of subjects by lists is what is asked by the night's views.
+use Prim.Native.Nat.{ℕ, zero, suc, _<_, _≤_}
+use mathlib.Core.Path.{_≡_, refl}
+use mathlib.Core.List.{List}
+use native.Mathlib.Omega.{arith}
+use lib.ListN.{getD}
 use Rattle.laws.specs.Choose.{if_then_else_}
-use Rattle.laws.proofs.Cases.{yes-is, no-is}
-use Rattle.night.specs.declared.Node.{Node}
-use Rattle.night.specs.declared.View.{View}
-use Rattle.night.specs.Kinds.{usesRight}
-use Rattle.night.specs.Night.{Night, nodeOf}
-use Rattle.night.specs.Views.{clearOf, sealedOf, overall}
+use Rattle.laws.proofs.Upwards.{each-at}
+use Rattle.sets.specs.Sets.{single, unions}
+use Rattle.night.specs.Night.{Night}
+use Rattle.night.specs.Views.{clearOf, sealedOf}
 use Rattle.model.specs.declared.Table.{Table}
-use Rattle.model.specs.Tables.{tableOf}
-use Rattle.model.specs.Candidates.{may, mayTake, isCandidate}
+use Rattle.model.specs.OneTest.{passesBoth, outBy}
+use Rattle.model.proofs.OutLaws.{whole-empty}
+use Rattle.model.proofs.TableLaws.{union-none}
+use Rattle.eligible.specs.Asked.{outAmong, passAmong, Sees}
 
--- of a step, where its operands passed: its result
-pub result-asked : {v : Node} {t : Table} {l r b : Bool} (N : Night) (i P E : ℕ)
-    → v ≡ nodeOf N i
-    → (v .kind ≡ 0 → ⊥)
-    → l ≡ mayTake N i (v .left) P E
-    → l ≡ true
-    → r ≡ (if usesRight (nodeOf N i .kind) then mayTake N i (nodeOf N i .right) P E else true)
-    → r ≡ true
-    → t ≡ tableOf N i
-    → b ≡ may t P E
-    → b ≡ isCandidate N i P E
-unfolding isCandidate
-result-asked N i P E node no-leaf left left-may right right-may table asked =
-    let step = ne-eqb (nodeOf N i .kind) 0 (λ z. no-leaf (ap (λ (v : Node). v .kind) node ∙ z)) in
-    let passed = sym (left ∙ ap (λ (v : Node). mayTake N i (v .left) P E) node) ∙ left-may in
-    no-is _ _ _ _ step (yes-is _ _ _ _ passed (yes-is _ _ _ _ (sym right ∙ right-may) (asked ∙ ap (λ (t : Table). may t P E) table)))
+-- nobody is out by an empty set
+pub none-out : (s : ℕ) (clear sealed : List ℕ) → outAmong s clear sealed 0 ≡ 0
+unfolding unions
+none-out zero clear sealed = refl
+none-out (suc s) clear sealed = rw (none-out s clear sealed, whole-empty (getD clear s 0) (getD sealed s 0)) (union-none 0)
 
--- by all that a subject sees
-pub asked-of : {v : View} {b : Bool} (N : Night) (i p : ℕ) → v ≡ overall N p → b ≡ isCandidate N i (v .clear) (v .sealed)
-    → isCandidate N i (clearOf N p) (sealedOf N p) ≡ b
-asked-of N i p seen asked = sym (asked ∙ ap (λ (v : View). isCandidate N i (v .clear) (v .sealed)) seen)
+-- unions of the same sets are the same
+pub unions-same : (f g : ℕ → ℕ) (n : ℕ) → ((k : ℕ) → k < n → f k ≡ g k) → unions f n ≡ unions g n
+unfolding unions
+unions-same f g zero h = refl
+unions-same f g (suc n) h = rw (unions-same f g n (λ k l. h k (omega arith)), h n (omega arith)) refl
+
+module _ (N : Night) (few : N .header .subjects ≤ 16) (clear sealed : List ℕ) (sees : Sees N clear sealed) where
+  pub clear-at : (p : ℕ) → p < N .header .subjects → getD clear p 0 ≡ clearOf N p
+  clear-at p l = rw (sees .in-clear) (each-at (clearOf N) 0 p 16 (omega arith))
+
+  pub sealed-at : (p : ℕ) → p < N .header .subjects → getD sealed p 0 ≡ sealedOf N p
+  sealed-at p l = rw (sees .in-sealed) (each-at (sealedOf N) 0 p 16 (omega arith))
+
+  pub out-night : (S : ℕ) → outAmong (N .header .subjects) clear sealed S ≡ outBy N S
+  unfolding outBy
+  out-night S = unions-same _ _ (N .header .subjects) (λ p l. rw (clear-at p l, sealed-at p l) refl)
+
+  pub pass-night : (t : Table)
+      → passAmong (N .header .subjects) clear sealed t ≡ unions (λ p. if passesBoth t (clearOf N p) (sealedOf N p) then single 16 p else 0) (N .header .subjects)
+  pass-night t = unions-same _ _ (N .header .subjects) (λ p l. rw (clear-at p l, sealed-at p l) refl)

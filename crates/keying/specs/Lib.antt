@@ -1,3 +1,3 @@
--- The nodes of a plan as events, and the parts of the built plan.
+-- The nodes of a plan as events, and the delivery.
 pub mod Nodes
 pub mod Parts

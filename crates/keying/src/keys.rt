@@ -4,7 +4,7 @@ use sets::subjects;
 ghost use Prim.Native.Nat.{ℕ};
 ghost use mathlib.Core.Path.{_≡_};
 ghost use mathlib.Core.List.{List};
-ghost use lib.ListN.{getD};
+ghost use lib.ListN.{length, getD};
 ghost use Rattle.laws.specs.Choose.{if_then_else_};
 ghost use Rattle.laws.specs.Upwards.{each};
 ghost use Rattle.sets.specs.Sets.{member, union, meet, apart, single};
@@ -18,9 +18,10 @@ pub struct Delivery {
     pub opened: u64,
 }
 
-// What stands at node i, nothing past the end.
-fn set_at(sets: [u64; 64], i: u8) -> u64
-    ensures { λ r. ⌜ r ≡ getD sets i 0 ⌝ }
+// What stands at node i, nothing past the end. Lent, since it is asked for each node and each attribute.
+fn set_at(sets: &[u64; 64], i: u8) -> u64
+    requires { ⌜ length (now sets) ≡ 64 ⌝ }
+    ensures { λ r. ⌜ r ≡ getD (now (sets .entry)) i 0 ⌝ }
 {
     if 64 <= i {
         return 0;
@@ -46,7 +47,7 @@ fn ever_sealed(seals: [u64; 64], n: u8) -> u64
     let mut all: u64 = 0;
     let mut i: u8 = 0;
     while i < n {
-        all = attributes::union(all, set_at(seals, i));
+        all = attributes::union(all, set_at(&seals, i));
         i += 1;
     }
     all
@@ -59,7 +60,7 @@ fn group_of(tied: [u64; 64], sealed: u64, k: u8) -> u64
     if attributes::has(sealed, k) {
         return attributes::meet(
             sealed,
-            attributes::union(attributes::single(k), set_at(tied, k)),
+            attributes::union(attributes::single(k), set_at(&tied, k)),
         );
     }
     0
@@ -87,8 +88,8 @@ fn holders_of(choice: &[u8], opens: [u64; 64], seals: [u64; 64], n: u8, group: u
             as_holder(
                 group,
                 subject_at(choice, i),
-                set_at(opens, i),
-                set_at(seals, i),
+                set_at(&opens, i),
+                set_at(&seals, i),
             ),
         );
         i += 1;

@@ -1,33 +1,32 @@
--- How a loop that reads a big-endian number is proved.
+-- Big-endian numbers by their bytes and by their halves, and read out of a copy of their bytes.
 use Prim.Native.Nat.{ℕ, zero, suc, _+_, _*_, _^_, _<_, _≤_}
-use native.Mathlib.Nat.{pow-suc, lt-of-lt-of-le, pow-le-pow-right}
+use native.Mathlib.Nat.{add-zero, add-suc, add-assoc, mul-one, add-mul, mul-assoc, pow-suc}
 use native.Mathlib.Omega.{arith}
-use native.Mathlib.Numerals.{add-one}
-use lib.Dec.{lit≤}
-use lib.ListN.{length, getD, List·getD-eq-default}
 use mathlib.Core.Path.{_≡_, refl}
 use mathlib.Core.List.{List}
+use lib.ListN.{getD}
 use Rattle.laws.specs.BigEndian.{be}
 
--- a loop begins
-pub be-none : (s : List ℕ) (at : ℕ) → be s at 0 ≡ 0
+-- a number of four bytes
+pub be-four : {a b c d : ℕ} (s : List ℕ) (at : ℕ)
+    → a ≡ getD s at 0
+    → b ≡ getD s (at + 1) 0
+    → c ≡ getD s (at + 2) 0
+    → d ≡ getD s (at + 3) 0
+    → ((a * 256 + b) * 256 + c) * 256 + d ≡ be s at 4
 unfolding be
-be-none s at = refl
+be-four s at first second third fourth = rw (first, second, third, fourth, add-zero at) (omega arith)
 
--- one byte more, at the code's n + 1
-pub be-more : (s : List ℕ) (at n : ℕ) → be s at (n + 1) ≡ be s at n * 256 + getD s (at + n) 0
+-- a number is its two halves, at any two widths
+pub be-halves : (s : List ℕ) (at n m : ℕ) → be s at (n + m) ≡ be s at n * 256 ^ m + be s (at + n) m
 unfolding be
-be-more s at n = rw add-one refl
+be-halves s at n zero = simp (add-zero, mul-one)
+be-halves s at n (suc m) = rw (add-suc, be-halves s at n m, pow-suc, add-mul, mul-assoc, ← add-assoc at n m) (omega arith)
 
--- a number below 256 ^ i with one byte more is below 256 ^ (i + 1), and within any width that has room
-pub more-lt : {v b : ℕ} (i : ℕ) → v < 256 ^ i → b < 256 → v * 256 + b < 256 ^ (i + 1)
-more-lt i h k = rw (add-one, pow-suc) (omega arith)
-
-pub room : {v i : ℕ} (n : ℕ) → v < 256 ^ i → i ≤ n → v < 256 ^ n
-room n h k = lt-of-lt-of-le h (pow-le-pow-right (lit≤ tt) k)
-
--- past the end
-pub be-past : (s : List ℕ) (at n : ℕ) → length s ≤ at → be s at n ≡ 0
+-- a number read out of p, a copy of w bytes of s from `at` on
+pub be-copied : {w : ℕ} (s : List ℕ) (at : ℕ) (p : List ℕ)
+    → ((k : ℕ) → k < w → getD p k 0 ≡ getD s (at + k) 0)
+    → (i n : ℕ) → i + n ≤ w → be p i n ≡ be s (at + i) n
 unfolding be
-be-past s at zero h = refl
-be-past s at (suc n) h = rw (be-past s at n h, List·getD-eq-default s 0 {n = at + n} (omega arith)) refl
+be-copied s at p copied i zero l = refl
+be-copied s at p copied i (suc n) l = rw (be-copied s at p copied i n (omega arith), copied (i + n) (omega arith), add-assoc at i n) refl

@@ -1,11 +1,12 @@
 -- What is read is the definition's where each of its parts is.
-use Prim.Native.Nat.{ℕ, _+_, _*_, _<_}
+use Prim.Native.Nat.{ℕ, _+_, _*_, _<_, _≤_}
+use native.Mathlib.Nat.{add-zero}
+use native.Mathlib.Omega.{arith}
 use mathlib.Core.Path.{_≡_, _∙_, ap, sym}
 use mathlib.Core.List.{List}
 use lib.ListN.{getD}
 use Rattle.laws.specs.BigEndian.{be}
 use Rattle.laws.specs.Choose.{if_then_else_}
-use Rattle.laws.proofs.BigEndian.{be-more}
 use Rattle.night.specs.declared.Header.{Header}
 use Rattle.night.specs.declared.Relation.{Relation}
 use Rattle.night.specs.declared.Grant.{Grant}
@@ -13,11 +14,8 @@ use Rattle.night.specs.declared.Node.{Node}
 use Rattle.night.specs.Versions.{delivers, headerLength}
 use Rattle.night.specs.Night.{relationOf, grantOf, nodeOf, stepPrice, linkPrice}
 use Rattle.layout.specs.Layout.{grantsFrom, nodesFrom, stepPricesFrom, headerOf, relationAt, grantAt, nodeAt, nthPrice, nightIn}
+use Rattle.laws.proofs.BigEndian.{be-copied}
 use Rattle.layout.proofs.Sections.{relation-at, grant-at, node-at, price-in, step-price-in, link-price-in}
-
--- a number with one byte more
-pub number-turn : {v b w : ℕ} (s : List ℕ) (at i : ℕ) → v ≡ be s at i → b ≡ getD s (at + i) 0 → w ≡ b → v * 256 + w ≡ be s at (i + 1)
-number-turn s at i number byte wide = (λ k. number k * 256 + (wide ∙ byte) k) ∙ sym (be-more s at i)
 
 pub header-made : {v p r a n g m u : ℕ} (s : List ℕ)
     → v ≡ be s 3 2
@@ -43,51 +41,71 @@ header-made s version subjects relations attributes nodes grants steps user =
       user = there i;
     }
 
-pub relation-made : {o m : ℕ} (s : List ℕ) (at : ℕ) → o ≡ getD s at 0 → m ≡ be s (at + 1) 8 → _≡_ {A = Relation} (record { owner = o; set = m }) (relationAt s at)
-unfolding relationAt
-relation-made s at owner set = λ i. record { owner = owner i; set = set i }
-
-pub grant-made : {r p c e : ℕ} (s : List ℕ) (at : ℕ)
-    → r ≡ getD s at 0
-    → p ≡ getD s (at + 1) 0
-    → c ≡ be s (at + 2) 8
-    → e ≡ be s (at + 10) 8
-    → _≡_ {A = Grant} (record { relation = r; subject = p; clear = c; sealed = e }) (grantAt s at)
-unfolding grantAt
-grant-made s at relation subject clear sealed = λ i. record { relation = relation i; subject = subject i; clear = clear i; sealed = sealed i }
-
-pub node-made : {k l r x y a b c m n z : ℕ} (s : List ℕ) (at : ℕ)
-    → k ≡ getD s at 0
-    → l ≡ getD s (at + 1) 0
-    → r ≡ getD s (at + 2) 0
-    → x ≡ getD s (at + 3) 0
-    → y ≡ getD s (at + 4) 0
-    → a ≡ getD s (at + 5) 0
-    → b ≡ getD s (at + 6) 0
-    → c ≡ getD s (at + 7) 0
-    → m ≡ be s (at + 8) 8
-    → n ≡ be s (at + 16) 8
-    → z ≡ be s (at + 24) 4
-    → _≡_ {A = Node} (record { kind = k; left = l; right = r; x = x; y = y; spare1 = a; spare2 = b; spare3 = c; set = m; needed = n; size = z }) (nodeAt s at)
-unfolding nodeAt
-node-made s at kind left right x y spare1 spare2 spare3 set needed size =
-    λ i. record {
-      kind = kind i;
-      left = left i;
-      right = right i;
-      x = x i;
-      y = y i;
-      spare1 = spare1 i;
-      spare2 = spare2 i;
-      spare3 = spare3 i;
-      set = set i;
-      needed = needed i;
-      size = size i;
+-- a node at its place with these numbers, each of which is read by a call
+abbrev nodeWith : List ℕ → ℕ → ℕ → ℕ → ℕ → Node
+nodeWith s at set needed size =
+    record {
+      kind = getD s at 0;
+      left = getD s (at + 1) 0;
+      right = getD s (at + 2) 0;
+      x = getD s (at + 3) 0;
+      y = getD s (at + 4) 0;
+      spare1 = getD s (at + 5) 0;
+      spare2 = getD s (at + 6) 0;
+      spare3 = getD s (at + 7) 0;
+      set = set;
+      needed = needed;
+      size = size;
     }
+
+pub node-made : {u v w : ℕ} (s : List ℕ) (at : ℕ)
+    → u ≡ be s (at + 8) 8
+    → v ≡ be s (at + 16) 8
+    → w ≡ be s (at + 24) 4
+    → nodeWith s at u v w ≡ nodeAt s at
+unfolding nodeAt
+node-made s at set needed size = λ i. nodeWith s at (set i) (needed i) (size i)
+
+-- a record read out of p, a copy of the 28 bytes of s from `at` on
+module _ (s : List ℕ) (at : ℕ) (p : List ℕ) (copied : (k : ℕ) → k < 28 → getD p k 0 ≡ getD s (at + k) 0) where
+  first : getD p 0 0 ≡ getD s at 0
+  first = rw (add-zero at) at (copied 0 (omega arith))
+
+  number : (i n : ℕ) → i + n ≤ 28 → be p i n ≡ be s (at + i) n
+  number = be-copied s at p copied
+
+  pub relation-copied : relationAt p 0 ≡ relationAt s at
+  unfolding relationAt
+  relation-copied = cc (first, number 1 8 (omega arith))
+
+  pub grant-copied : grantAt p 0 ≡ grantAt s at
+  unfolding grantAt
+  grant-copied = cc (first, copied 1 (omega arith), number 2 8 (omega arith), number 10 8 (omega arith))
+
+  pub node-copied : nodeAt p 0 ≡ nodeAt s at
+  unfolding nodeAt
+  node-copied =
+      cc (
+        first,
+        copied 1 (omega arith),
+        copied 2 (omega arith),
+        copied 3 (omega arith),
+        copied 4 (omega arith),
+        copied 5 (omega arith),
+        copied 6 (omega arith),
+        copied 7 (omega arith),
+        number 8 8 (omega arith),
+        number 16 8 (omega arith),
+        number 24 4 (omega arith),
+      )
 
 -- at a number of its section
 module _ (s : List ℕ) (h : Header) (i : ℕ) where
-  pub relation-read : {from : ℕ} {v : Relation} → i < h .relations → from ≡ headerLength (h .version) → v ≡ relationAt s (from + 9 * i) → v ≡ relationOf (nightIn s h) i
+  pub relation-read : {from : ℕ} {v : Relation}
+      → i < h .relations
+      → from ≡ headerLength (h .version)
+      → v ≡ relationAt s (from + 9 * i)
+      → v ≡ relationOf (nightIn s h) i
   relation-read l from there = there ∙ ap (λ (g : ℕ). relationAt s (g + 9 * i)) from ∙ sym (relation-at s h i l)
 
   pub grant-read : {from : ℕ} {v : Grant} → i < h .grants → from ≡ grantsFrom h → v ≡ grantAt s (from + 18 * i) → v ≡ grantOf (nightIn s h) i
@@ -96,10 +114,19 @@ module _ (s : List ℕ) (h : Header) (i : ℕ) where
   pub node-read : {from : ℕ} {v : Node} → i < h .nodes → from ≡ nodesFrom h → v ≡ nodeAt s (from + 28 * i) → v ≡ nodeOf (nightIn s h) i
   node-read l from there = there ∙ ap (λ (g : ℕ). nodeAt s (g + 28 * i)) from ∙ sym (node-at s h i l)
 
-  pub price-read : {from v : ℕ} → i < h .nodes * h .subjects + h .subjects * h .subjects → from ≡ stepPricesFrom h → v ≡ be s (from + 4 * i) 4 → v ≡ nthPrice s h i
+  pub price-read : {from v : ℕ}
+      → i < h .nodes * h .subjects + h .subjects * h .subjects
+      → from ≡ stepPricesFrom h
+      → v ≡ be s (from + 4 * i) 4
+      → v ≡ nthPrice s h i
   price-read l from there = there ∙ ap (λ (g : ℕ). be s (g + 4 * i) 4) from ∙ sym (price-in s h i l)
 
-  pub step-price-read : {cell v : ℕ} (p : ℕ) → i < h .nodes → p < h .subjects → cell ≡ i * h .subjects + p → v ≡ nthPrice s h cell → v ≡ stepPrice (nightIn s h) i p
+  pub step-price-read : {cell v : ℕ} (p : ℕ)
+      → i < h .nodes
+      → p < h .subjects
+      → cell ≡ i * h .subjects + p
+      → v ≡ nthPrice s h cell
+      → v ≡ stepPrice (nightIn s h) i p
   step-price-read p l k cell there = there ∙ ap (nthPrice s h) cell ∙ sym (step-price-in s h i p l k)
 
   pub link-price-read : {before cell v : ℕ} (q : ℕ)

@@ -1,7 +1,7 @@
 // Bytes and big-endian numbers of a slice. A byte past the end is read as 0.
 ghost use mathlib.Core.Path.{_≡_};
-ghost use Prim.Native.Nat.{_<_, _≤_, _^_};
-ghost use lib.ListN.{getD};
+ghost use Prim.Native.Nat.{ℕ, _+_, _<_, _≤_, _^_};
+ghost use lib.ListN.{length, getD};
 ghost use Rattle.laws.specs.BigEndian.{be};
 
 // The byte at `at`.
@@ -21,41 +21,60 @@ fn wide(x: u8) -> u64
     x as u64
 }
 
-// The number that the n bytes from `at` on make.
-fn number(file: &[u8], at: usize, n: usize) -> u64
-    requires { ⌜ n ≤ 8 ⌝ }
-    ensures { λ r. ⌜ (r ≡ be (now (file .entry)) at n) × (r < 256 ^ n) ⌝ }
-{
-    // past the end every byte is 0, and a position within the file cannot wrap
-    if file.len() <= at {
-        return 0;
-    }
-    let mut v: u64 = 0;
-    let mut i: usize = 0;
-    while i < n {
-        v = v * 256 + wide(byte(file, at + i));
-        i += 1;
-    }
-    v
-}
-
-// The 16-bit number at `at`.
+// The 16-bit number at `at`. Only the header has such numbers, and it is read once.
 pub(crate) fn two(file: &[u8], at: usize) -> u16
+    requires { ⌜ at < 2 ^ 31 ⌝ }
     ensures { λ r. ⌜ r ≡ be (now (file .entry)) at 2 ⌝ }
 {
-    number(file, at, 2) as u16
+    let a = wide(byte(file, at));
+    let b = wide(byte(file, at + 1));
+    (a * 256 + b) as u16
 }
 
-// The 32-bit number at `at`.
-pub(crate) fn four(file: &[u8], at: usize) -> u32
+// The 32-bit number at `at`, where the file has it whole. The compiler makes one load of a sum of this form, and of no sum of more bytes.
+pub(crate) fn four_in(file: &[u8], at: usize) -> u32
+    requires { ⌜ at + 4 ≤ length (now file) ⌝ }
     ensures { λ r. ⌜ r ≡ be (now (file .entry)) at 4 ⌝ }
 {
-    number(file, at, 4) as u32
+    let a = wide(file[at]);
+    let b = wide(file[at + 1]);
+    let c = wide(file[at + 2]);
+    let d = wide(file[at + 3]);
+    (((a * 256 + b) * 256 + c) * 256 + d) as u32
 }
 
-// The 64-bit number at `at`.
-pub(crate) fn eight(file: &[u8], at: usize) -> u64
+// The 64-bit number at `at`, where the file has it whole. Of two halves the compiler makes one load again.
+pub(crate) fn eight_in(file: &[u8], at: usize) -> u64
+    requires { ⌜ at + 8 ≤ length (now file) ⌝ }
     ensures { λ r. ⌜ r ≡ be (now (file .entry)) at 8 ⌝ }
 {
-    number(file, at, 8)
+    (four_in(file, at) as u64) * 4_294_967_296 + (four_in(file, at + 4) as u64)
+}
+
+// The 28 bytes from `at` on, as many as the longest record has: what a file is too short for is read out of these, as from a file that has it whole.
+pub(crate) fn padded(file: &[u8], at: usize) -> [u8; 28]
+    requires { ⌜ at < 2 ^ 31 ⌝ }
+    ensures { λ r. ⌜ ((k : ℕ) → k < 28 → getD r k 0 ≡ getD (now (file .entry)) (at + k) 0) ⌝ }
+{
+    let mut out = [0u8; 28];
+    let mut i: usize = 0;
+    while i < 28 {
+        let b = byte(file, at + i);
+        out[i] = b;
+        i += 1;
+    }
+    out
+}
+
+// The 32-bit number at `at`. A short file is handed on by a copy of the reference, as in the records.
+pub(crate) fn four(file: &[u8], at: usize) -> u32
+    requires { ⌜ at < 2 ^ 31 ⌝ }
+    ensures { λ r. ⌜ r ≡ be (now (file .entry)) at 4 ⌝ }
+{
+    if file.len() < at + 4 {
+        let here = file;
+        let bytes = padded(here, at);
+        return four_in(&bytes[..28], 0);
+    }
+    four_in(file, at)
 }

@@ -3,4 +3,6 @@ mod bytes;
 pub mod opened;
 pub mod places;
 mod records;
+mod short;
 pub mod values;
+mod whole;

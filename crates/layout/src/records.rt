@@ -1,6 +1,9 @@
 // The records of a plan file, read where they stand, from what a view of it holds. A record past its section is all zeros.
+// A file that is too short for a record is handed on by a copy of the reference, `here`: its address and length then stay in registers elsewhere.
 use crate::bytes;
 use crate::places;
+use crate::short;
+use crate::whole;
 use night::Grant;
 use night::Header;
 use night::Node;
@@ -64,10 +67,12 @@ fn relation_at(file: &[u8], at: usize) -> Relation
     requires { ⌜ at < 2 ^ 31 ⌝ }
     ensures { λ r. ⌜ r ≡ relationAt (now (file .entry)) at ⌝ }
 {
-    Relation {
-        owner: bytes::byte(file, at),
-        set: bytes::eight(file, at + 1),
+    if file.len() < at + versions::RELATION_LENGTH {
+        let here = file;
+        let all = short::all_at(here, at);
+        return all.relation;
     }
+    whole::relation_in(file, at)
 }
 
 // A grant's record.
@@ -75,12 +80,12 @@ fn grant_at(file: &[u8], at: usize) -> Grant
     requires { ⌜ at < 2 ^ 31 ⌝ }
     ensures { λ r. ⌜ r ≡ grantAt (now (file .entry)) at ⌝ }
 {
-    Grant {
-        relation: bytes::byte(file, at),
-        subject: bytes::byte(file, at + 1),
-        clear: bytes::eight(file, at + 2),
-        sealed: bytes::eight(file, at + 10),
+    if file.len() < at + versions::GRANT_LENGTH {
+        let here = file;
+        let all = short::all_at(here, at);
+        return all.grant;
     }
+    whole::grant_in(file, at)
 }
 
 // A node's record.
@@ -88,19 +93,12 @@ fn node_at(file: &[u8], at: usize) -> Node
     requires { ⌜ at < 2 ^ 31 ⌝ }
     ensures { λ r. ⌜ r ≡ nodeAt (now (file .entry)) at ⌝ }
 {
-    Node {
-        kind: bytes::byte(file, at),
-        left: bytes::byte(file, at + 1),
-        right: bytes::byte(file, at + 2),
-        x: bytes::byte(file, at + 3),
-        y: bytes::byte(file, at + 4),
-        spare1: bytes::byte(file, at + 5),
-        spare2: bytes::byte(file, at + 6),
-        spare3: bytes::byte(file, at + 7),
-        set: bytes::eight(file, at + 8),
-        needed: bytes::eight(file, at + 16),
-        size: bytes::four(file, at + 24),
+    if file.len() < at + versions::NODE_LENGTH {
+        let here = file;
+        let all = short::all_at(here, at);
+        return all.node;
     }
+    whole::node_in(file, at)
 }
 
 // What stands past the nodes.

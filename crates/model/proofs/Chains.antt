@@ -54,7 +54,8 @@ chain-classes T S t low f g C = record { small = low; linked = λ i j h. f i j (
 pub same-classes : (T S : ℕ → Type 0) (t : List ℕ) → ((m : ℕ) → T m → S m) → ((m : ℕ) → S m → T m) → Classes T t → Classes S t
 same-classes T S t f g C = chain-classes T S t (λ m s. C .small m (g m s)) (λ i j. chain-map f) (λ i j. chain-map g) C
 
-blank : (n k : ℕ) → _≡_ {A = ℕ} (getD (replicate n 0) k 0) 0
+-- where nothing is tied every tied set is empty
+pub blank : (n k : ℕ) → _≡_ {A = ℕ} (getD (replicate n 0) k 0) 0
 blank zero k = refl
 blank (suc n) zero = refl
 blank (suc n) (suc k) = blank n k
@@ -89,7 +90,7 @@ gathered-met t s (suc n) j k l hk h = go (member s n) refl (eq-or-lt-of-le (le-o
     go false e (inl q) f = absurd (not-member s n e (rw q at hk))
     go false e (inr q) f = f q hk h
 
-gathered-in : (t : List ℕ) (s n j : ℕ) → In j (gathered t s n) → In j s ⊎ ((k : ℕ) × In k s × In j (getD t k 0))
+pub gathered-in : (t : List ℕ) (s n j : ℕ) → In j (gathered t s n) → In j s ⊎ ((k : ℕ) × In k s × In j (getD t k 0))
 unfolding gathered
 gathered-in t s zero j h = inl h
 gathered-in t s (suc n) j h = go (member s n) refl h (gathered-in t s n j)
@@ -101,11 +102,11 @@ gathered-in t s (suc n) j h = go (member s n) refl h (gathered-in t s n j)
 
 -- entries of a table with one more set tied
 module _ (t : List ℕ) (s i : ℕ) where
-  tie-met : i < 64 → In i (gathered t s 64) → getD (tie t s) i 0 ≡ gathered t s 64
+  pub tie-met : i < 64 → In i (gathered t s 64) → getD (tie t s) i 0 ≡ gathered t s 64
   unfolding tie
   tie-met l h = rw (each-at {A = ℕ} _ 0 i 64 l, in-member (gathered t s 64) i h) refl
 
-  tie-kept : i < 64 → member (gathered t s 64) i ≡ false → getD (tie t s) i 0 ≡ getD t i 0
+  pub tie-kept : i < 64 → member (gathered t s 64) i ≡ false → getD (tie t s) i 0 ≡ getD t i 0
   unfolding tie
   tie-kept l e = rw (each-at {A = ℕ} _ 0 i 64 l, e) refl
 

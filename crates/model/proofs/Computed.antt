@@ -1,4 +1,4 @@
--- Two choices of the same total, and how subjects stand to small steps, by computation.
+-- Two choices of the same total, how subjects stand to small steps, and small cases of the one test, by computation.
 use Prim.Native.Nat.{ℕ, zero, suc, _<_}
 use mathlib.Core.Path.{_≡_, refl, sym}
 use native.Mathlib.Omega.{arith}
@@ -17,6 +17,7 @@ use Rattle.model.specs.Tables.{leastView, tests, ties, joined, result, l
 use Rattle.model.specs.Candidates.{clearOffends, sealedOffends, tiedOffends, may, mayTake, isCandidate, candidateSet}
 use Rattle.model.specs.Reasons.{lookedAt, conditions, reasons, offending, standing}
 use Rattle.model.specs.Standings.{Standings}
+use Rattle.model.specs.OneTest.{takenBy, splits, outBy, outOf, passesBoth, SmallTests}
 use Rattle.model.specs.Choice.{Choice, Admissible, ownerOf, handed, costAt, total}
 use Rattle.model.specs.Order.{evenNight, smallerLast, smallerFirst, ReadFromLast}
 
@@ -86,4 +87,33 @@ standings =
       first-tied = refl;
       tied-alone = refl;
       tied-sealed = refl;
+    }
+
+pub small-tests : SmallTests
+unfolding anyOf first somewhere upwards bit member union meet minus within single unions grantOf nodeOf usesRight reads readTogether visibleAfter isFor grantFor viewOf clearOf sealedOf gathered tie merged leastView tests ties joined result leafTable stepTable tableStep tables tableOf clearOffends sealedOffends takenBy splits outBy outOf passesBoth tiedOffends may mayTake isCandidate candidateSet
+small-tests =
+    record {
+      half = refl;
+      unseen = refl;
+      in-clear = refl;
+      in-sealed = refl;
+      nothing = refl;
+      out-half = refl;
+      out-all = refl;
+      out-one = refl;
+      out-tied = refl;
+      out-later = refl;
+      two-clear = refl;
+      two-sealed = refl;
+      two-tied = (refl, refl);
+      one-sealed = refl;
+      passes = refl;
+      not-clear = refl;
+      not-sealed = refl;
+      of-join = refl;
+      of-select = refl;
+      of-project = refl;
+      still-out = refl;
+      third-passes = refl;
+      grown = refl;
     }

@@ -16,7 +16,7 @@ use Rattle.night.specs.Kinds.{usesLeft, usesRight, isChild}
 use Rattle.night.specs.Promised.{Promised}
 use Rattle.night.proofs.Children.{is-child}
 use Rattle.model.specs.Dp.{bestChild, costRows, giveChild, giveLeft, giveBoth, giveDown, bestLast, chosenLast, chosen}
-use Rattle.model.proofs.Lowest.{clash}
+use Rattle.model.proofs.Lowest.{clash, not-holds}
 use Rattle.model.proofs.Parents.{child-left, child-right, child-lower, one-parent}
 
 -- a loop from the last node down
@@ -34,13 +34,6 @@ not-left v j e u q = clash (sym (child-left v u) ∙ rw q at e)
 
 not-right : (v : Node) (j : ℕ) → isChild v j ≡ false → usesRight (v .kind) ≡ true → j ≡ v .right → ⊥
 not-right v j e u q = clash (sym (child-right v u) ∙ rw q at e)
-
-not-child : (v : Node) (j : ℕ) → (isChild v j ≡ true → ⊥) → isChild v j ≡ false
-not-child v j h = go (isChild v j) refl
-  where
-    go : (b : Bool) → isChild v j ≡ b → b ≡ false
-    go true e = absurd (h e)
-    go false e = refl
 
 module _ (N : Night) (sound : Promised N) (rows : List (List ℕ)) where
   abbrev n : ℕ
@@ -136,7 +129,7 @@ module _ (N : Night) (sound : Promised N) (rows : List (List ℕ)) where
     where
       -- what is not lower is no child
       kept : (j : ℕ) → i ≤ j → j < n → getD (giveBoth N rows i c) j 0 ≡ getD c j 0
-      kept j h g = not-given i l c (F .long) j (not-child (nodeOf N i) j (λ e. omega (arith, child-lower N sound i j l e)))
+      kept j h g = not-given i l c (F .long) j (not-holds (isChild (nodeOf N i) j) (λ e. omega (arith, child-lower N sound i j l e)))
 
       here : (j k : ℕ) → i ≡ j → isChild (nodeOf N j) k ≡ true → getD (giveBoth N rows i c) k 0 ≡ bestChild N rows k (getD (giveBoth N rows i c) j 0) .lowest
       here j k q e = rw (← q) (rw (kept i (omega arith) l) (both-given i l c (F .long) k (rw (← q) at e)))
@@ -144,7 +137,7 @@ module _ (N : Night) (sound : Promised N) (rows : List (List ℕ)) where
       later : (j k : ℕ) → i < j → j < n → isChild (nodeOf N j) k ≡ true → getD (giveBoth N rows i c) k 0 ≡ bestChild N rows k (getD (giveBoth N rows i c) j 0) .lowest
       later j k q g e =
           rw
-          (kept j (omega arith) g, not-given i l c (F .long) k (not-child (nodeOf N i) k (λ p. one-parent N sound i j k l g p e (λ z. omega arith))))
+          (kept j (omega arith) g, not-given i l c (F .long) k (not-holds (isChild (nodeOf N i) k) (λ p. one-parent N sound i j k l g p e (λ z. omega arith))))
           (F .given j k q g e)
 
   follow-down : (m : ℕ) (c : List ℕ) → m ≤ n → Follows m c → Follows 0 (giveDown N rows m c)

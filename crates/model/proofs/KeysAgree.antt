@@ -1,18 +1,14 @@
 -- The keys by the root's tied sets are the run's, since every node is under the root.
-use Prim.Native.Nat.{ℕ, zero, suc, _+_, _-_, _<_, _≤_}
+use Prim.Native.Nat.{ℕ, _-_, _<_}
 use mathlib.Core.Path.{_≡_, refl}
-use mathlib.Core.Bool.{Bool, true, false}
 use mathlib.Core.List.{List}
-use mathlib.Core.Logic.{_⊎_, inl, inr, ⊎-elim, _↔_}
+use mathlib.Core.Logic.{inl, inr, ⊎-elim, _↔_}
 use native.Mathlib.Omega.{arith}
-use lib.Dec.{ltb}
-use borrow.Author.Tests.{ltb-true, ltb-false}
 use Rattle.sets.specs.Sets.{union}
 use Rattle.sets.proofs.Members.{same-members, in-union}
-use Rattle.night.specs.Night.{Night, nodeOf}
+use Rattle.night.specs.Night.{Night}
 use Rattle.night.specs.Kinds.{attribute}
 use Rattle.night.specs.Promised.{Promised}
-use Rattle.night.proofs.Children.{is-child}
 use Rattle.model.specs.Ties.{Classes}
 use Rattle.model.specs.Tables.{tableOf, TiedAt, here, under-left, under-right}
 use Rattle.run.specs.Keys.{Event, groupOf, keyName, keyHolders}
@@ -22,8 +18,9 @@ use Rattle.model.specs.Demand.{KeysAgree, ReachedMeaning}
 use Rattle.model.proofs.Chains.{chain-map}
 use Rattle.model.proofs.Meaning.{tied-meaning}
 use Rattle.model.proofs.PastLaws.{past-tied}
-use Rattle.model.proofs.Parents.{root-there, child-lower}
+use Rattle.model.proofs.Parents.{root-there}
 use Rattle.model.proofs.Reached.{TiedBelow, reached-exactly}
+use Rattle.model.proofs.Under.{under-tied, all-under}
 
 module _ (N : Night) (sound : Promised N) where
   abbrev n : ℕ
@@ -35,25 +32,11 @@ module _ (N : Night) (sound : Promised N) where
   tied-somewhere {i} l (under-left u h) = tied-somewhere (omega (arith, sound .node i l .left-lower u)) h
   tied-somewhere {i} l (under-right u h) = tied-somewhere (omega (arith, sound .node i l .right-lower u)) h
 
-  -- and what is tied under a node is tied under the root
-  tied-root : (d i m : ℕ) → i < n → n ≤ d + i → TiedAt N i m → TiedAt N (n - 1) m
-  tied-root zero i m l q h = absurd (omega arith)
-  tied-root (suc d) i m l q h = go (ltb (i + 1) n) refl (tied-root d)
-    where
-      go : (b : Bool) → ltb (i + 1) n ≡ b → ((j m : ℕ) → j < n → n ≤ d + j → TiedAt N j m → TiedAt N (n - 1) m) → TiedAt N (n - 1) m
-      go true e higher =
-          let w = sound .parent i (ltb-true (i + 1) n e) in
-          higher (w .0) m (w .1) (omega (arith, child-lower N sound (w .0) i (w .1) (w .2)))
-          (⊎-elim (λ x. under-left (x .0) (rw (x .1) h)) (λ x. under-right (x .0) (rw (x .1) h)) (is-child (nodeOf N (w .0)) i (w .2)))
-      go false e higher =
-          let last : n - 1 ≡ i = omega (arith, ltb-false (i + 1) n e) in
-          rw last h
-
   last : n - 1 < n
   last = root-there N sound
 
   root-ties : (m : ℕ) → TiedAt N (n - 1) m ↔ TiedBelow N n m
-  root-ties m = (tied-somewhere last, λ w. tied-root n (w .0) m (w .1) (omega arith) (here (w .2)))
+  root-ties m = (tied-somewhere last, λ w. under-tied (all-under N sound (w .0) (w .1)) (here (w .2)))
 
   -- the root's tied set of an attribute is what the run reaches from it, with the attribute itself
   same-reached : (k : ℕ) → union (attribute k) (rootTied N k) ≡ union (attribute k) (reached N k)

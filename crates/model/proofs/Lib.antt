@@ -6,11 +6,15 @@ pub mod Reasons
 pub mod Offending
 pub mod ResultTied
 pub mod TableLaws
+pub mod Taken
+pub mod OutLaws
 pub mod Meaning
 pub mod Kept
+pub mod OneTest
 pub mod Once
 pub mod Computed
 pub mod Parents
+pub mod Under
 pub mod Lowest
 pub mod Follows
 pub mod CostRows

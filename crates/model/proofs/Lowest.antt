@@ -43,6 +43,15 @@ not-below h = le-of-suc-le-suc (lt-of-not-le h)
 pub clash : true ≡ false → ⊥
 clash e = let z : _≡_ {A = ℕ} 0 1 = cc in omega arith
 
+-- a test that does not hold fails, and one that does not fail holds
+pub not-holds : (a : Bool) → (a ≡ true → ⊥) → a ≡ false
+not-holds true h = absurd (h refl)
+not-holds false h = refl
+
+pub not-fails : (a : Bool) → (a ≡ false → ⊥) → a ≡ true
+not-fails true h = refl
+not-fails false h = absurd (h refl)
+
 module _ (f : ℕ → ℕ) (among k : ℕ) where
   found-start : Found f among 0 noBest
   found-start =

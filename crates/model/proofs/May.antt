@@ -8,7 +8,7 @@ use lib.Dec.{eqb}
 use borrow.Author.Tests.{eqb-true, eqb-false, eq-eqb, ne-eqb, not-true}
 use Rattle.laws.specs.Choose.{if_then_else_}
 use Rattle.laws.proofs.First.{somewhere-false, nowhere}
-use Rattle.sets.specs.Sets.{In, single}
+use Rattle.sets.specs.Sets.{In, single, unions}
 use Rattle.sets.proofs.Members.{in-unions, in-none}
 use Rattle.sets.proofs.Words.{in-single}
 use Rattle.night.specs.Night.{Night, nodeOf}
@@ -18,7 +18,7 @@ use Rattle.model.specs.declared.Table.{Table}
 use Rattle.model.specs.Candidates.{clearOffends, sealedOffends, tiedOffends, May, Candidate, may, mayTake, isCandidate, candidateSet}
 
 -- two tests, both of which hold
-both-true : (a b : Bool) → (if a then b else false) ≡ true → (a ≡ true) × (b ≡ true)
+pub both-true : (a b : Bool) → (if a then b else false) ≡ true → (a ≡ true) × (b ≡ true)
 both-true true b e = (refl, e)
 both-true false b e = absurd (let z : _≡_ {A = ℕ} 0 1 = cc in omega arith)
 
@@ -74,22 +74,33 @@ module _ (N : Night) (i P E : ℕ) where
         refl,
   )
 
+-- of the numbers below n, those who pass a test as a set of 16 bits: its members
+pub in-chosen : (test : ℕ → Bool) (n p : ℕ) → In p (unions (λ q. if test q then single 16 q else 0) n) ↔ ((p < n) × (p < 16) × (test p ≡ true))
+in-chosen test n p = (
+  λ h. let w = in-unions chosen n p .0 h in go (w .0) (w .1) (test (w .0)) refl (w .2),
+  λ w. in-unions chosen n p .1 (p, w .0, rw (w .2) (in-single 16 p p .1 (refl, w .1))),
+)
+  where
+    chosen : ℕ → ℕ
+    chosen q = if test q then single 16 q else 0
+
+    go : (q : ℕ) → q < n → (b : Bool) → test q ≡ b → In p (if b then single 16 q else 0) → (p < n) × (p < 16) × (test p ≡ true)
+    go q l true e h =
+        let w = in-single 16 p q .0 h in
+        rw (w .0) (l, w .1, e)
+    go q l false e h = absurd (in-none p h)
+
 -- a subject is in the set exactly when it is there and is a candidate by its view
-pub set-exactly : (N : Night) (i p : ℕ) → N .header .subjects ≤ 16 → In p (candidateSet N i) ↔ ((p < N .header .subjects) × Candidate N i (clearOf N p) (sealedOf N p))
+pub set-exactly : (N : Night) (i p : ℕ) → N .header .subjects ≤ 16
+    → In p (candidateSet N i) ↔ ((p < N .header .subjects) × Candidate N i (clearOf N p) (sealedOf N p))
 unfolding candidateSet
-set-exactly N i p few = (λ h. let w = in-unions chosen s p .0 h in go (w .0) (w .1) (isCandidate N i (clearOf N (w .0)) (sealedOf N (w .0))) refl (w .2), λ w. in-unions chosen s p .1 (p, w .0, here (w .1) (omega (arith, w .0))))
+set-exactly N i p few = (
+  λ h. let w = in-chosen test s p .0 h in (w .0, candidate-exactly N i (clearOf N p) (sealedOf N p) .0 (w .2)),
+  λ w. in-chosen test s p .1 (w .0, omega (arith, w .0), candidate-exactly N i (clearOf N p) (sealedOf N p) .1 (w .1)),
+)
   where
     s : ℕ
     s = N .header .subjects
 
-    chosen : ℕ → ℕ
-    chosen q = if isCandidate N i (clearOf N q) (sealedOf N q) then single 16 q else 0
-
-    here : Candidate N i (clearOf N p) (sealedOf N p) → p < 16 → In p (chosen p)
-    here c l = rw (candidate-exactly N i (clearOf N p) (sealedOf N p) .1 c) (in-single 16 p p .1 (refl, l))
-
-    go : (q : ℕ) → q < s → (b : Bool) → isCandidate N i (clearOf N q) (sealedOf N q) ≡ b → In p (if b then single 16 q else 0) → (p < s) × Candidate N i (clearOf N p) (sealedOf N p)
-    go q l true e h =
-        let same : p ≡ q = in-single 16 p q .0 h .0 in
-        rw same (l, candidate-exactly N i (clearOf N q) (sealedOf N q) .0 e)
-    go q l false e h = absurd (in-none p h)
+    test : ℕ → Bool
+    test q = isCandidate N i (clearOf N q) (sealedOf N q)

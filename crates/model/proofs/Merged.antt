@@ -1,17 +1,20 @@
 -- The tied sets of two operands together: those of the second are tied, one by one, into those of the first.
 use Prim.Native.Nat.{ℕ, zero, suc, _^_, _<_}
-use mathlib.Core.Path.{_≡_, refl, ap, _∙_}
+use mathlib.Core.Path.{_≡_, refl, sym, ap, _∙_}
+use mathlib.Core.Bool.{false}
 use mathlib.Core.List.{List}
 use mathlib.Core.Logic.{_⊎_, inl, inr, ⊎-elim}
 use native.Mathlib.Nat.{eq-or-lt-of-le, le-of-suc-le-suc}
 use native.Mathlib.Omega.{arith}
-use lib.ListN.{getD}
-use Rattle.sets.specs.Sets.{In, meet, below}
-use Rattle.sets.proofs.Members.{same-members, in-meet}
+use lib.ListN.{length, getD}
+use lib.Seq.{ext-getD}
+use Rattle.laws.proofs.Upwards.{each-length}
+use Rattle.sets.specs.Sets.{In, member, meet, below}
+use Rattle.sets.proofs.Members.{same-members, out-member, in-meet, in-none}
 use Rattle.sets.proofs.Words.{in-below, below-lt, meet-lt}
 use Rattle.run.specs.Linked.{Chain, one}
-use Rattle.model.specs.Ties.{merged, Classes}
-use Rattle.model.proofs.Chains.{chain-join, chain-back, chain-through, chain-map, chain-low, chain-classes, same-classes, tie-classes}
+use Rattle.model.specs.Ties.{gathered, tie, merged, Classes}
+use Rattle.model.proofs.Chains.{chain-join, chain-back, chain-through, chain-map, chain-low, chain-classes, same-classes, tie-kept, tie-classes}
 
 -- a set with members below 64 alone is a word of 64 bits
 word-of : (a : ℕ) → ((k : ℕ) → In k a → k < 64) → a < 2 ^ 64
@@ -56,3 +59,26 @@ pub merged-classes : (T S : ℕ → Type 0) (t u : List ℕ) → Classes T t →
 merged-classes T S t u C D =
     chain-classes (So T u 64) (λ m. T m ⊎ S m) (merged t u 64) (λ m. ⊎-elim (C .small m) (D .small m))
     (λ i j. chain-through (out T S t u C D)) (λ i j. chain-through (back T S t u C D)) (merged-below T S t u C D 64)
+
+-- tied sets are a list of 64
+pub tie-length : (t : List ℕ) (s : ℕ) → length (tie t s) ≡ 64
+unfolding tie
+tie-length t s = each-length _ 64
+
+pub merged-length : (t u : List ℕ) (n : ℕ) → length t ≡ 64 → length (merged t u n) ≡ 64
+unfolding merged
+merged-length t u zero e = e
+merged-length t u (suc n) e = tie-length (merged t u n) (getD u n 0)
+
+-- the empty set meets no tied set
+gathered-empty : (t : List ℕ) (n : ℕ) → gathered t 0 n ≡ 0
+unfolding gathered
+gathered-empty t zero = refl
+gathered-empty t (suc n) = rw (out-member 0 n (in-none n), gathered-empty t n) refl
+
+-- so tying it changes nothing
+pub tie-empty : (t : List ℕ) → length t ≡ 64 → tie t 0 ≡ t
+tie-empty t e = ext-getD 0 (tie t 0) t (tie-length t 0 ∙ sym e) (λ k l. tie-kept t 0 k (rw (tie-length t 0) at l) (nowhere k))
+  where
+    nowhere : (k : ℕ) → member (gathered t 0 64) k ≡ false
+    nowhere k = rw (gathered-empty t 64) (out-member 0 k (in-none k))

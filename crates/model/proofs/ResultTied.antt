@@ -15,14 +15,14 @@ use Rattle.model.specs.Tables.{shown, leastView, tests, tableOf}
 use Rattle.model.specs.Reasons.{ofLeft, ofRight, ofResult, lookedAt, ClearLies, SealedLies, Holds, ResultTied}
 use Rattle.model.proofs.Shown.{shown-visible, tests-read, step-clear, step-sealed, step-tested, step-hidden}
 
+-- of a form, clear or sealed: what is visible or implicit in it satisfies S
+abbrev pub Lies : (Table → ℕ) → (Table → ℕ) → (ℕ → Type 0) → Table → Type 0
+Lies column implicit S t = (a : ℕ) → In a (column t) ⊎ In a (implicit t) → S a
+
 module _ (N : Night) (sound : Promised N) (i : ℕ) (l : i < N .header .nodes) (s : nodeOf N i .kind ≡ 0 → ⊥) (P E : ℕ) where
   -- the least view of operand c
-  abbrev view : ℕ → Table
+  abbrev pub view : ℕ → Table
   view c = leastView (nodeOf N i .needed) (tableOf N c)
-
-  -- of a form, clear or sealed: what is visible or implicit in it satisfies S
-  abbrev Lies : (Table → ℕ) → (Table → ℕ) → (ℕ → Type 0) → Table → Type 0
-  Lies column implicit S t = (a : ℕ) → In a (column t) ⊎ In a (implicit t) → S a
 
   -- what the result has in a form an operand's least view has in it: F says of an attribute that the step gives it this form
   module _ (column implicit : Table → ℕ) (F S : ℕ → Type 0)
@@ -42,7 +42,8 @@ module _ (N : Night) (sound : Promised N) (i : ℕ) (l : i < N .header .nodes) (
         was-shown : F a → OfOperand N i (λ c. In a (visible N c)) → S a
         was-shown f = from (λ c b lies q. lies a (inl (shows a c b f q)))
 
-  result-clear : ClearLies (view (nodeOf N i .left)) P E → (usesRight (nodeOf N i .kind) ≡ true → ClearLies (view (nodeOf N i .right)) P E) → ClearLies (tableOf N i) P E
+  pub result-clear : ClearLies (view (nodeOf N i .left)) P E → (usesRight (nodeOf N i .kind) ≡ true → ClearLies (view (nodeOf N i .right)) P E)
+      → ClearLies (tableOf N i) P E
   unfolding leastView
   result-clear =
       result-lies (λ t. t .clear) (λ t. t .tested) (λ a. In a (nodeOf N i .needed)) (λ a. In a P)
@@ -51,7 +52,7 @@ module _ (N : Night) (sound : Promised N) (i : ℕ) (l : i < N .header .nodes) (
       (λ a h. in-meet _ (visible N i) a .0 (rw (step-clear N sound i l s) at h))
       (λ a. step-tested N sound i l s a .0)
 
-  result-sealed : SealedLies (view (nodeOf N i .left)) P E → (usesRight (nodeOf N i .kind) ≡ true → SealedLies (view (nodeOf N i .right)) P E)
+  pub result-sealed : SealedLies (view (nodeOf N i .left)) P E → (usesRight (nodeOf N i .kind) ≡ true → SealedLies (view (nodeOf N i .right)) P E)
       → SealedLies (tableOf N i) P E
   unfolding leastView
   result-sealed =

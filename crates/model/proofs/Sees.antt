@@ -10,6 +10,7 @@ use Rattle.sets.proofs.Members.{same-members, in-or-not, in-union, in-minus, in
 use Rattle.sets.proofs.Words.{not-within}
 use Rattle.model.specs.declared.Table.{Table}
 use Rattle.model.specs.Candidates.{clearOffends, sealedOffends, tiedOffends, ClearHolds, SealedHolds, TiedHolds, May}
+use Rattle.model.specs.OneTest.{splits}
 use Rattle.model.specs.Reasons.{ClearLies, SealedLies, TiedLies}
 use Rattle.model.proofs.Lowest.{clash}
 
@@ -33,6 +34,23 @@ inside a b f =
     absurd (w .1 (f k (w .0))))
     (λ k h. absurd (in-none k h))
 
+-- a set that does not split lies wholly in P or wholly in E
+pub whole-exactly : (S P E : ℕ) → (splits S P E ≡ false) ↔ (Within S P ⊎ Within S E)
+unfolding splits
+whole-exactly S P E = (
+  go (within S P) (within S E) refl refl,
+  ⊎-elim (λ w. rw (within-exactly S P .1 w) refl) (λ w. rw (within-exactly S E .1 w) (either (within S P))),
+)
+  where
+    go : (x y : Bool) → within S P ≡ x → within S E ≡ y → (if x then false else if y then false else true) ≡ false → Within S P ⊎ Within S E
+    go true y p q e = inl (within-exactly S P .0 p)
+    go false true p q e = inr (within-exactly S E .0 q)
+    go false false p q e = absurd (clash e)
+
+    either : (x : Bool) → (if x then false else false) ≡ false
+    either true = refl
+    either false = refl
+
 -- each condition by its offending set or tied set, and in document 01's words
 module _ (t : Table) (P E : ℕ) where
   pub clear-lies : ClearHolds t P E ↔ ClearLies t P E
@@ -50,25 +68,12 @@ module _ (t : Table) (P E : ℕ) where
   )
 
   pub tied-whole : (k : ℕ) → tiedOffends t P E k ≡ false → Within (getD (t .tied) k 0) P ⊎ Within (getD (t .tied) k 0) E
-  unfolding tiedOffends
-  tied-whole k e = go (within m P) (within m E) refl refl e
-    where
-      m : ℕ
-      m = getD (t .tied) k 0
-
-      go : (x y : Bool) → within m P ≡ x → within m E ≡ y → (if x then false else if y then false else true) ≡ false → Within m P ⊎ Within m E
-      go true y p q e = inl (within-exactly m P .0 p)
-      go false true p q e = inr (within-exactly m E .0 q)
-      go false false p q e = absurd (clash e)
+  unfolding tiedOffends splits
+  tied-whole k e = whole-exactly (getD (t .tied) k 0) P E .0 e
 
   whole-tied : (k : ℕ) → Within (getD (t .tied) k 0) P ⊎ Within (getD (t .tied) k 0) E → tiedOffends t P E k ≡ false
-  unfolding tiedOffends
-  whole-tied k (inl w) = rw (within-exactly (getD (t .tied) k 0) P .1 w) refl
-  whole-tied k (inr w) = rw (within-exactly (getD (t .tied) k 0) E .1 w) (go (within (getD (t .tied) k 0) P))
-    where
-      go : (x : Bool) → (if x then false else false) ≡ false
-      go true = refl
-      go false = refl
+  unfolding tiedOffends splits
+  whole-tied k w = whole-exactly (getD (t .tied) k 0) P E .1 w
 
   pub tied-lies : TiedHolds t P E ↔ TiedLies t P E
   tied-lies = (λ e k l. tied-whole k (e k l), λ w k l. whole-tied k (w k l))

@@ -2,11 +2,11 @@
 use Prim.Native.Nat.{ℕ, suc, _+_, _<_, _≤_}
 use mathlib.Core.Path.{_≡_, refl, sym, _∙_}
 use mathlib.Core.Bool.{Bool, true, false}
-use mathlib.Core.List.{List, [], _∷_}
+use mathlib.Core.List.{List}
 use native.Mathlib.Numerals.{add-one}
 use native.Mathlib.Omega.{arith}
 use lib.Bits.{and-zero-l, or-zero-r}
-use lib.Dec.{eqb, ltb}
+use lib.Dec.{ltb}
 use lib.ListN.{getD}
 use borrow.Author.Tests.{ltb-true, ltb-false, lt-ltb, eq-eqb, ne-eqb}
 use Rattle.laws.specs.Choose.{if_then_else_, anyOf}
@@ -14,13 +14,12 @@ use Rattle.laws.specs.Upwards.{upwards}
 use Rattle.laws.proofs.Upwards.{upwards-at, upwards-past}
 use Rattle.sets.specs.Sets.{bit, member, union, meet, minus}
 use Rattle.sets.proofs.Members.{bit-lt, bit-meet, bit-union, bit-minus, same-members}
-use Rattle.night.specs.declared.Node.{Node}
 use Rattle.night.specs.Night.{Night, nodeOf}
 use Rattle.night.specs.Kinds.{attribute, reads, readTogether, usesRight, visibleAfter}
 use Rattle.model.specs.declared.Table.{Table}
 use Rattle.model.proofs.Chains.{tie-single}
 use Rattle.model.specs.Ties.{gathered, tie, merged}
-use Rattle.model.specs.Tables.{blank, shown, leastView, tests, ties, tieAll, joined, result, leafTable, stepTable, FunctionTies, tableStep, tables, tableOf}
+use Rattle.model.specs.Tables.{blank, shown, leastView, tests, ties, joined, result, leafTable, stepTable, FunctionTies, tableStep, tables, tableOf}
 
 -- one attribute more is gathered
 pub gathered-none : (t : List ℕ) (s : ℕ) → gathered t s 0 ≡ s
@@ -39,15 +38,6 @@ merged-none t u = refl
 pub merged-more : (t u : List ℕ) (n : ℕ) → merged t u (n + 1) ≡ tie (merged t u n) (getD u n 0)
 unfolding merged
 merged-more t u n = rw add-one refl
-
--- what a step ties, by its kind
-pub tie-together : (t : List ℕ) (v : Node) (b : Bool) → readTogether v ≡ (if b then reads v ∷ [] else []) → tieAll t (ties v) ≡ (if b then tie t (reads v) else t)
-unfolding ties
-tie-together t v b e = rw e (go b)
-  where
-    go : (x : Bool) → tieAll t (if x then reads v ∷ [] else []) ≡ (if x then tie t (reads v) else t)
-    go true = refl
-    go false = refl
 
 -- sets
 pub meet-none : (a : ℕ) → meet 0 a ≡ 0

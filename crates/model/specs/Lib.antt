@@ -4,6 +4,7 @@ pub mod Tables
 pub mod Candidates
 pub mod Reasons
 pub mod Standings
+pub mod OneTest
 pub mod Choice
 pub mod Order
 pub mod Dp

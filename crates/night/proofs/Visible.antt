@@ -110,7 +110,7 @@ abbrev pub OfOperand : Night → ℕ → (ℕ → Type 0) → Type 0
 OfOperand N i Q = Q (nodeOf N i .left) ⊎ ((usesRight (nodeOf N i .kind) ≡ true) × Q (nodeOf N i .right))
 
 -- where there is no right operand, it doesn't matter what is visible in it
-left-alone : (v : Node) (left right other : ℕ) → usesRight (v .kind) ≡ false → visibleAfter v left right ≡ visibleAfter v left other
+pub left-alone : (v : Node) (left right other : ℕ) → usesRight (v .kind) ≡ false → visibleAfter v left right ≡ visibleAfter v left other
 unfolding visibleAfter usesRight anyOf
 left-alone v left right other e = go (eqb (v .kind) 4) (eqb (v .kind) 5) e
   where

@@ -55,7 +55,3 @@ clearOf N p = unions (λ r. viewOf N p r .clear) (N .header .relations)
 
 unfoldable pub sealedOf : Night → ℕ → ℕ
 sealedOf N p = unions (λ r. viewOf N p r .sealed) (N .header .relations)
-
--- both together
-abbrev pub overall : Night → ℕ → View
-overall N p = record { clear = clearOf N p; sealed = sealedOf N p }

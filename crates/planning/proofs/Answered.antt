@@ -21,6 +21,7 @@ use Rattle.trials.specs.Trials.{trials, checkOf}
 use Rattle.trials.proofs.Opened.{accepted-header}
 use Rattle.trials.proofs.Promises.{accepted-promises}
 use Rattle.verdicts.proofs.User.{choosing-accepted}
+use Rattle.eligible.specs.declared.Built.{Built}
 use Rattle.choosing.specs.Answers.{ChoiceSays, offeredOf}
 use Rattle.choosing.specs.declared.Cheapest.the-variants.{Found, Refused as NotFound}
 use Rattle.planning.specs.Answers.{candidatesOf, CandidatesExactly, CandidatesOnce, NoneElsewhere, Filled, CheapestSays, OfferedSays}
@@ -69,9 +70,9 @@ unfolding cheapestTrials
 chosen-promises s e =
     passed-promises s (passes-append (choiceTrials s) (candidateTrials (nightOf s) ++ stepsTrials (nightOf s)) (passed (cheapestTrials s) tt tt e .0) .0)
 
-pub cheapest-unchosen : (s subjects : List ℕ) (rooms : Rooms) (n p : ℕ) → ChoiceSays s subjects (NotFound n p) → CheapestSays s rooms rooms (NoCheapest n p)
+pub cheapest-unchosen : (s subjects : List ℕ) (built : Built) (rooms : Rooms) (n p : ℕ) → ChoiceSays s subjects built (NotFound n p) → CheapestSays s rooms rooms (NoCheapest n p)
 unfolding cheapestPlanTrials
-cheapest-unchosen s subjects rooms n p w =
+cheapest-unchosen s subjects built rooms n p w =
     (refused-then (cheapestTrials s) (threeTrials (nightOf s) (rooms .choice) (rooms .plan) (rooms .keys)) tt tt n p (w .0), refl)
 
 pub cheapest-short : (s : List ℕ) (rooms : Rooms) (short : ℕ) → verdict (cheapestTrials s) (tt {0}) ≡ answers tt
@@ -83,12 +84,12 @@ cheapest-short s rooms short e low some = (
   refl,
 )
 
-pub cheapest-filled : (s subjects : List ℕ) (before after : Rooms) (short total steps : ℕ) → ChoiceSays s subjects (Found total steps)
+pub cheapest-filled : (s subjects : List ℕ) (built : Built) (before after : Rooms) (short total steps : ℕ) → ChoiceSays s subjects built (Found total steps)
     → short ≡ lowOfThree (nightOf s) (before .choice) (before .plan) (before .keys) → short ≡ 0
     → after .choice ≡ each (nightOf s .header .nodes) (λ i. getD subjects i 0) ++ drop (nightOf s .header .nodes) (before .choice)
     → Filled (nightOf s) (λ i. getD subjects i 0) before after → CheapestSays s before after (Cheapest total steps)
 unfolding cheapestPlanTrials
-cheapest-filled s subjects before after short total steps w low none choice filled =
+cheapest-filled s subjects built before after short total steps w low none choice filled =
     let rooms = three-pass (nightOf s) (before .choice) (before .plan) (before .keys) short low none in (
       passed-then (cheapestTrials s) (threeTrials (nightOf s) (before .choice) (before .plan) (before .keys)) tt tt (w .0) ∙ passes-accepts _ tt (rooms .1),
       record {

@@ -1,5 +1,4 @@
 // The entries of the planner. Each takes any bytes, asks nothing of its caller, and answers or refuses with a number and a place.
-mod reasons;
 mod rooms;
 
 use choosing::Cheapest;
@@ -32,11 +31,12 @@ fn refused(answer: Checked) -> CandidateSet
 pub fn candidates(file: &[u8], node: usize) -> CandidateSet
     ensures { λ r. ⌜ candidatesSaid r ≡ candidatesOf (now (file .entry)) node ⌝ }
 {
-    let answer = reading::check(file);
-    let Checked::Accepted(h) = answer else {
+    let found = eligible::candidate_set(file, node);
+    let answer = found.answer;
+    let Checked::Accepted(_) = answer else {
         return refused(answer);
     };
-    CandidateSet::Among(eligible::candidate_set(file, h, node))
+    CandidateSet::Among(found.set)
 }
 
 // Why a subject is out of a step: the table (1 the left operand's least view, 2 the right one's, 3 the result), the condition, and the lowest
@@ -79,18 +79,13 @@ fn told(standing: Standing) -> SubjectStanding
 pub fn why(file: &[u8], node: u32, subject: u32) -> SubjectStanding
     ensures { λ r. ⌜ whySaid r ≡ whyOf (now (file .entry)) node subject ⌝ }
 {
-    let answer = reading::check(file);
-    let Checked::Accepted(h) = answer else {
+    let stood = eligible::standing(file, node, subject);
+    let answer = stood.answer;
+    let Checked::Accepted(_) = answer else {
         return unread(answer);
     };
-    if reasons::not_asked(file, h, node, subject) {
-        return SubjectStanding::Refused {
-            number: 16,
-            place: node,
-        };
-    }
-    let view = views::overall(file, h, subject as u8);
-    told(reasons::standing(file, h, node as usize, view.clear, view.sealed))
+    let standing = stood.standing;
+    told(standing)
 }
 
 // The cheapest plan: its total and the steps, or the refusal.
@@ -146,7 +141,8 @@ pub fn cheapest(file: &[u8], choice: &mut [u8], plan: &mut [u64], keys: &mut [u6
     }
     let subjects = chosen.subjects;
     rooms::fill_choice(choice, subjects, h.nodes);
-    rooms::fill_plan(file, h, &subjects, plan, keys);
+    let built = chosen.built;
+    rooms::fill_plan(file, h, &subjects, built, plan, keys);
     CheapestPlan::Cheapest { total, steps }
 }
 
@@ -156,7 +152,8 @@ pub fn offered(file: &[u8], offer: &[u8], plan: &mut [u64], keys: &mut [u64]) ->
         (record { choice = []; plan = now (plan .entry); keys = now (keys .entry) })
         (record { choice = []; plan = now (plan .exit); keys = now (keys .exit) }) r ⌝ }
 {
-    let answer = choosing::offered_choice(file, offer);
+    let costed = choosing::offered_choice(file, offer);
+    let answer = costed.said;
     let Offered::Costs(total) = answer else {
         return uncosted(answer);
     };
@@ -168,6 +165,7 @@ pub fn offered(file: &[u8], offer: &[u8], plan: &mut [u64], keys: &mut [u64]) ->
             place: of_two,
         };
     }
-    rooms::fill_plan(file, h, offer, plan, keys);
+    let built = costed.built;
+    rooms::fill_plan(file, h, offer, built, plan, keys);
     OfferedPlan::Offered { total }
 }

@@ -1,4 +1,5 @@
 // The lent rooms: which is too short, and what is written into them from the front.
+use eligible::Built;
 use keying::built;
 use keying::keys;
 use night::Header;
@@ -12,6 +13,7 @@ ghost use Rattle.laws.specs.Upwards.{each};
 ghost use Rattle.layout.specs.Layout.{nightIn};
 ghost use Rattle.night.specs.Promised.{Promised};
 ghost use Rattle.model.specs.Plan.{inTurn};
+ghost use Rattle.eligible.specs.Answers.{BuiltFor};
 ghost use Rattle.planning.specs.Answers.{WrittenFor};
 
 // The place of the lowest short room of plan and keys, 0 where neither is short.
@@ -64,19 +66,26 @@ fn fill_pairs(room: &mut [u64], first: [u64; 64], second: [u64; 64], n: u8)
     }
 }
 
-// The plan's room, and the keys' room, for the choice with these subjects.
-pub(crate) fn fill_plan(file: &[u8], h: Header, choice: &[u8], plan: &mut [u64], keys: &mut [u64])
-    requires { ⌜ Promised (nightIn (now file) h) × (2 * h .nodes ≤ length (now plan)) × (2 * h .attributes ≤ length (now keys)) ⌝ }
+// The plan's room, and the keys' room, for the choice with these subjects, from what the pass has for the plan.
+pub(crate) fn fill_plan(
+    file: &[u8],
+    h: Header,
+    choice: &[u8],
+    parts: Built,
+    plan: &mut [u64],
+    keys: &mut [u64],
+)
+    requires { ⌜ Promised (nightIn (now file) h) × BuiltFor (nightIn (now file) h) parts
+        × (2 * h .nodes ≤ length (now plan)) × (2 * h .attributes ≤ length (now keys)) ⌝ }
     ensures { λ _. ⌜ WrittenFor (nightIn (now (file .entry)) h) h (now (choice .entry))
         (now (plan .entry)) (now (plan .exit))
         (now (keys .entry)) (now (keys .exit)) ⌝ }
 {
     let opens = built::all_opens(file, h);
-    let seals = built::all_seals(file, h);
-    let root = built::root_table(file, h);
-    let tied = root.tied;
+    let seals = parts.seals;
+    let tied = parts.tied;
     let names = keys::names(tied, seals, h.nodes);
-    let delivery = built::delivery(h, root.sealed);
+    let delivery = built::delivery(h, parts.sealed);
     let holders = keys::holders(tied, choice, opens, seals, h.nodes, delivery);
     fill_pairs(plan, opens, seals, h.nodes);
     fill_pairs(keys, names, holders, h.attributes);

@@ -1,6 +1,6 @@
 // Sets of subjects: bit p of a u16 for subject p. A number from 16 on is in no set.
 ghost use mathlib.Core.Path.{_≡_};
-ghost use Rattle.sets.specs.Sets.{member, union, single, size};
+ghost use Rattle.sets.specs.Sets.{member, union, minus, single, size};
 
 // Whether p is a member.
 pub fn has(set: u16, p: u8) -> bool
@@ -17,6 +17,13 @@ pub fn union(a: u16, b: u16) -> u16
     ensures { λ r. ⌜ r ≡ union a b ⌝ }
 {
     a | b
+}
+
+// What is in a and not in b.
+pub fn minus(a: u16, b: u16) -> u16
+    ensures { λ r. ⌜ r ≡ minus a b ⌝ }
+{
+    a - (a & b)
 }
 
 // The set of p alone.

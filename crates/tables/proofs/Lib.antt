@@ -1,3 +1,2 @@
--- The tables of the night that a file holds, and how tables are made.
-pub mod Nodes
+-- How tables are made.
 pub mod Made

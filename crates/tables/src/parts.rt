@@ -1,75 +1,70 @@
-// Tables made of other tables: least views, operands joined, results.
-use crate::ties;
-use model::Table;
+// Tables made of other tables: least views, operands joined, results. What is said of the columns holds whatever is tied.
+use crate::Columns;
 use night::Node;
 use rules::kinds;
 use sets::attributes;
+ghost use Prim.Native.Nat.{ℕ};
 ghost use mathlib.Core.Path.{_≡_};
+ghost use mathlib.Core.List.{List};
 ghost use Rattle.laws.specs.Choose.{if_then_else_};
 ghost use Rattle.night.specs.Kinds.{usesRight, visibleAfter};
-ghost use Rattle.model.specs.Tables.{blank, shown, leastView, tests, ties, tieAll, joined, result, leafTable, stepTable};
+ghost use Rattle.model.specs.Ties.{merged};
+ghost use Rattle.model.specs.Tables.{blank, shown, leastView, tests, ties, tieAll, joined, result, leafTable};
+ghost use Rattle.tables.specs.Columns.{withTied, columnsOf};
 
 // No columns and no past.
-pub fn no_table() -> Table
-    ensures { λ r. ⌜ r ≡ blank ⌝ }
+pub fn no_columns() -> Columns
+    ensures { λ r. ⌜ r ≡ columnsOf blank ⌝ }
 {
-    Table {
+    Columns {
         clear: 0,
         sealed: 0,
         tested: 0,
         hidden: 0,
-        tied: [0u64; 64],
     }
 }
 
 // A leaf's table: its set in clear.
-pub fn leaf_table(v: Node) -> Table
-    ensures { λ r. ⌜ r ≡ leafTable v ⌝ }
+pub fn leaf_columns(v: Node) -> Columns
+    ensures { λ r. ⌜ r ≡ columnsOf (leafTable v) ⌝ }
 {
-    Table {
+    Columns {
         clear: v.set,
         sealed: 0,
         tested: 0,
         hidden: 0,
-        tied: [0u64; 64],
     }
 }
 
 // All that is visible.
-fn shown(t: Table) -> u64
-    ensures { λ r. ⌜ r ≡ shown t ⌝ }
+fn shown(t: Columns) -> u64
+    ensures { λ r. ⌜ ((tied : List ℕ) → r ≡ shown (withTied t tied)) ⌝ }
 {
     attributes::union(t.clear, t.sealed)
 }
 
 // The least view: the needed attributes that are visible are clear, the other visible ones sealed.
-pub fn least_view(needed: u64, t: Table) -> Table
-    ensures { λ r. ⌜ r ≡ leastView needed t ⌝ }
+pub fn least_view(needed: u64, t: Columns) -> Columns
+    ensures { λ r. ⌜ ((tied : List ℕ) → withTied r tied ≡ leastView needed (withTied t tied)) ⌝ }
 {
     let visible = shown(t);
-    let tied = t.tied;
-    Table {
+    Columns {
         clear: attributes::meet(needed, visible),
         sealed: attributes::minus(visible, needed),
         tested: t.tested,
         hidden: t.hidden,
-        tied,
     }
 }
 
 // Two operands' parts joined.
-fn join(t: Table, u: Table) -> Table
-    ensures { λ r. ⌜ r ≡ joined t u ⌝ }
+fn join(t: Columns, u: Columns) -> Columns
+    ensures { λ r. ⌜ ((tied other : List ℕ) → withTied r (merged tied other 64) ≡ joined (withTied t tied) (withTied u other)) ⌝ }
 {
-    let mine = t.tied;
-    let other = u.tied;
-    let tied = ties::merge(mine, other);
-    Table {
+    Columns {
         clear: attributes::union(t.clear, u.clear),
         sealed: attributes::union(t.sealed, u.sealed),
         tested: attributes::union(t.tested, u.tested),
         hidden: attributes::union(t.hidden, u.hidden),
-        tied,
     }
 }
 
@@ -89,35 +84,23 @@ fn tests(v: Node) -> u64
     0
 }
 
-// The tied sets after the step has tied what it ties.
-fn tied_after(v: Node, tied: [u64; 64]) -> [u64; 64]
-    ensures { λ r. ⌜ r ≡ tieAll tied (ties v) ⌝ }
-{
-    if kinds::reads_together(v) {
-        return ties::tied_with(tied, kinds::reads(v));
-    }
-    tied
-}
-
 // The step's result over its operands' parts, where `after` is visible after it.
-fn result(v: Node, after: u64, t: Table) -> Table
-    ensures { λ r. ⌜ r ≡ result v after t ⌝ }
+fn result(v: Node, after: u64, t: Columns) -> Columns
+    ensures { λ r. ⌜ ((tied : List ℕ) → withTied r (tieAll tied (ties v)) ≡ result v after (withTied t tied)) ⌝ }
 {
     let tested = tests(v);
-    let before = t.tied;
-    let tied = tied_after(v, before);
-    Table {
+    Columns {
         clear: attributes::meet(t.clear, after),
         sealed: attributes::meet(t.sealed, after),
         tested: attributes::union(t.tested, attributes::meet(tested, t.clear)),
         hidden: attributes::union(t.hidden, attributes::meet(tested, t.sealed)),
-        tied,
     }
 }
 
-// What the step has of its operands: their least views, joined where there are two.
-fn taken(v: Node, left: Table, right: Table) -> Table
-    ensures { λ t. ⌜ t ≡ (if usesRight (v .kind) then joined left right else left) ⌝ }
+// What the step has of its operands, of which `left` and `right` are the least views: both joined where there are two.
+pub fn taken(v: Node, left: Columns, right: Columns) -> Columns
+    ensures { λ r. ⌜ ((tied other : List ℕ)
+        → r ≡ columnsOf (if usesRight (v .kind) then joined (withTied left tied) (withTied right other) else withTied left tied)) ⌝ }
 {
     if kinds::uses_right(v.kind) {
         return join(left, right);
@@ -125,20 +108,10 @@ fn taken(v: Node, left: Table, right: Table) -> Table
     left
 }
 
-// The step's table over its operands' tables l and r, of which `left` and `right` are the least views.
-pub fn table_over(v: Node, l: Table, r: Table, left: Table, right: Table) -> Table
-    ensures { λ t. ⌜ t ≡ result v (visibleAfter v (shown l) (shown r)) (if usesRight (v .kind) then joined left right else left) ⌝ }
+// The step's table over its operands' tables l and r, of which it has `taken`.
+pub fn made(v: Node, l: Columns, r: Columns, taken: Columns) -> Columns
+    ensures { λ t. ⌜ ((tied other both : List ℕ)
+        → withTied t (tieAll both (ties v)) ≡ result v (visibleAfter v (shown (withTied l tied)) (shown (withTied r other))) (withTied taken both)) ⌝ }
 {
-    result(
-        v,
-        kinds::visible_after(v, shown(l), shown(r)),
-        taken(v, left, right),
-    )
-}
-
-// The step's table over its operands' tables.
-pub fn step_table(v: Node, l: Table, r: Table) -> Table
-    ensures { λ t. ⌜ t ≡ stepTable v l r ⌝ }
-{
-    table_over(v, l, r, least_view(v.needed, l), least_view(v.needed, r))
+    result(v, kinds::visible_after(v, shown(l), shown(r)), taken)
 }

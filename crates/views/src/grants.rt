@@ -9,6 +9,10 @@ ghost use Rattle.laws.specs.First.{first};
 ghost use Rattle.layout.specs.Layout.{nightIn};
 ghost use Rattle.night.specs.Night.{grantOf, noGrant};
 ghost use Rattle.night.specs.Views.{isFor};
+ghost use Rattle.views.specs.Stretch.{atOnce};
+
+// How many grants are decoded at once: few, since each search clears and copies room for as many, however soon it ends.
+pub(crate) const AT_ONCE: usize = 8;
 
 // Whether the grant is on relation r, to subject p.
 fn is_for(g: Grant, r: u8, p: u8) -> bool
@@ -51,16 +55,16 @@ fn find(grants: &[Grant], relation: u8, subject: u8) -> usize
 }
 
 // The same among the first n of an array. By value, so that a caller has nothing to lend.
-fn find_among(grants: [Grant; 272], n: usize, relation: u8, subject: u8) -> usize
-    requires { ⌜ n ≤ 272 ⌝ }
+fn find_among(grants: [Grant; AT_ONCE], n: usize, relation: u8, subject: u8) -> usize
+    requires { ⌜ n ≤ atOnce ⌝ }
     ensures { λ j. ⌜ j ≡ first (λ k. isFor (getD grants k noGrant) relation subject) n ⌝ }
 {
     find(&grants[..n], relation, subject)
 }
 
 // The n grants from number `from` on, where the header is h.
-fn decoded(file: &[u8], h: Header, from: usize, n: usize) -> [Grant; 272]
-    requires { ⌜ (n ≤ 272) × (from + n < 2 ^ 64) ⌝ }
+fn decoded(file: &[u8], h: Header, from: usize, n: usize) -> [Grant; AT_ONCE]
+    requires { ⌜ (n ≤ atOnce) × (from + n < 2 ^ 64) ⌝ }
     ensures { λ r. ⌜ ((k : ℕ) → k < n → getD r k noGrant ≡ grantOf (nightIn (now (file .entry)) h) (from + k)) ⌝ }
 {
     let mut out = [Grant {
@@ -68,7 +72,7 @@ fn decoded(file: &[u8], h: Header, from: usize, n: usize) -> [Grant; 272]
         subject: 0,
         clear: 0,
         sealed: 0,
-    }; 272];
+    }; AT_ONCE];
     let mut i: usize = 0;
     while i < n {
         let g = values::grant(file, h, from + i);
@@ -87,7 +91,7 @@ pub(crate) fn find_from(
     relation: u8,
     subject: u8,
 ) -> usize
-    requires { ⌜ (n ≤ 272) × (from + n < 2 ^ 64) ⌝ }
+    requires { ⌜ (n ≤ atOnce) × (from + n < 2 ^ 64) ⌝ }
     ensures { λ j. ⌜ j ≡ first (λ k. isFor (grantOf (nightIn (now (file .entry)) h) (from + k)) relation subject) n ⌝ }
 {
     let grants = decoded(file, h, from, n);

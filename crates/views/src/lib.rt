@@ -5,26 +5,26 @@ use layout::values;
 use night::Grant;
 use night::Header;
 use night::View;
-use sets::attributes;
 ghost use mathlib.Core.Path.{_≡_};
 ghost use Prim.Native.Nat.{min};
 ghost use Rattle.laws.specs.First.{first};
 ghost use Rattle.layout.specs.Layout.{nightIn};
 ghost use Rattle.night.specs.Night.{grantOf};
-ghost use Rattle.night.specs.Views.{isFor, seenBy, viewOf, overall};
+ghost use Rattle.night.specs.Views.{isFor, seenBy, viewOf};
+ghost use Rattle.views.specs.Stretch.{atOnce};
 
-// How many of the n grants that are left are decoded at once: as many as an accepted file can have.
+// How many of the n grants that are left are decoded next.
 fn stretch(n: usize) -> usize
-    ensures { λ m. ⌜ m ≡ min n 272 ⌝ }
+    ensures { λ m. ⌜ m ≡ min n atOnce ⌝ }
 {
-    if n < 272 {
+    if n < grants::AT_ONCE {
         return n;
     }
-    272
+    grants::AT_ONCE
 }
 
-// The number of the first of the first n grants that is on relation r to subject p, or n where there is none. Grants that a header
-// counts beyond what a file may have are gone through in further stretches.
+// The number of the first of the first n grants that is on relation r to subject p, or n where there is none. They are gone
+// through in stretches, and none is decoded after the stretch that has it.
 pub fn first_grant(file: &[u8], h: Header, r: u8, p: u8, n: usize) -> usize
     ensures { λ j. ⌜ j ≡ first (λ k. isFor (grantOf (nightIn (now (file .entry)) h) k) r p) n ⌝ }
 {
@@ -67,20 +67,4 @@ pub fn view(file: &[u8], h: Header, p: u8, r: u8) -> View
         clear: 0,
         sealed: 0,
     }
-}
-
-// All that subject p sees, over all relations: in clear and sealed.
-pub fn overall(file: &[u8], h: Header, p: u8) -> View
-    ensures { λ v. ⌜ v ≡ overall (nightIn (now (file .entry)) h) p ⌝ }
-{
-    let mut clear: u64 = 0;
-    let mut sealed: u64 = 0;
-    let mut r: u8 = 0;
-    while r < h.relations {
-        let v = view(file, h, p, r);
-        clear = attributes::union(clear, v.clear);
-        sealed = attributes::union(sealed, v.sealed);
-        r += 1;
-    }
-    View { clear, sealed }
 }

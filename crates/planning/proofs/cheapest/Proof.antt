@@ -24,7 +24,7 @@ returns c =
     let a = c .before .before .before .before .before .before .before .before .args in
     let told = c .before .enum-told .given .1 in
     rw (c .unchosen .ensures, told)
-    (cheapest-unchosen (now (a .file)) (c .before .before .before .cheapest-choice .result .subjects) (record { choice = now (a .choice); plan = now (a .plan); keys = now (a .keys) }) _ _ (rw told at (c .before .before .before .cheapest-choice .ensures)))
+    (cheapest-unchosen (now (a .file)) (c .before .before .before .cheapest-choice .result .subjects) (c .before .before .before .cheapest-choice .result .built) (record { choice = now (a .choice); plan = now (a .plan); keys = now (a .keys) }) _ _ (rw told at (c .before .before .before .cheapest-choice .ensures)))
 
 header-requires : tie.Need-header-requires
 header-requires c κs = search needs
@@ -58,13 +58,14 @@ slice-aggregate-fill-plan c = search needs
 fill-plan-requires : tie.Need-fill-plan-requires
 unfolding nightIn
 fill-plan-requires c κs =
-    let h = c .before .before .before .before .before .before .before .before .before .before in
+    let h = c .before .before .before .before .before .before .before .before .before .before .before in
     let a = h .before .before .before .before .before .before .before .before .before .args in
     let chosen = h .before .before .before .before .cheapest-choice in
     let says = rw (h .before .before .said .given .1) at (chosen .ensures) in
-    let short = c .before .before .before .before .before .before .before .before .before .short-of-three in
-    let fits = three-pass (nightOf (now (a .file))) (now (a .choice)) (now (a .plan)) (now (a .keys)) (short .result) (rw (h .header .ensures) at (short .ensures)) (c .before .before .before .before .before .before .before .before .if1 .left) in
-    rw (h .header .ensures) (chosen-promises (now (a .file)) (says .0), fits .2, fits .3)
+    let e = c .before .before .before .before .before .before .before .before .before in
+    let short = e .before .short-of-three in
+    let fits = three-pass (nightOf (now (a .file))) (now (a .choice)) (now (a .plan)) (now (a .keys)) (short .result) (rw (h .header .ensures) at (short .ensures)) (e .if1 .left) in
+    rw (h .header .ensures) (chosen-promises (now (a .file)) (says .0), says .2, fits .2, fits .3)
 
 same-length : tie.Need-same-length
 same-length c = search needs
@@ -78,15 +79,15 @@ same-length-3 c = search needs
 returns-3 : tie.Need-returns-3
 unfolding nightIn
 returns-3 c =
-    let e = c .before .before .before .before .before .before .before .before .before .before .before .before .before in
+    let e = c .before .before .before .before .before .before .before .before .before .before .before .before .before .before in
     let h = e .before .before in
     let a = h .before .before .before .before .before .before .before .before .before .args in
     let chosen = h .before .before .before .before .cheapest-choice in
     let says = rw (h .before .before .said .given .1) at (chosen .ensures) in
-    let choice = c .before .before .before .before .before .before .before .before .before .before .fill-choice in
+    let choice = c .before .before .before .before .before .before .before .before .before .before .before .fill-choice in
     let plan = c .before .before .before .before .fill-plan in
-    cheapest-filled (now (a .file)) (chosen .result .subjects) (record { choice = now (a .choice); plan = now (a .plan); keys = now (a .keys) })
-    (record { choice = choice .last .0; plan = plan .last .1 .1 .1 .0; keys = plan .last .1 .1 .1 .1 .0 }) (e .before .short-of-three .result) _ _ says
+    cheapest-filled (now (a .file)) (chosen .result .subjects) (chosen .result .built) (record { choice = now (a .choice); plan = now (a .plan); keys = now (a .keys) })
+    (record { choice = choice .last .0; plan = plan .last .1 .1 .1 .1 .0; keys = plan .last .1 .1 .1 .1 .1 .0 }) (e .before .short-of-three .result) _ _ says
     (rw (h .header .ensures) at (e .before .short-of-three .ensures)) (e .if1 .left) (rw (h .header .ensures) at (choice .ensures))
     (record { plan = rw (h .header .ensures) at (plan .ensures .0); keys = rw (h .header .ensures) at (plan .ensures .1) })
 

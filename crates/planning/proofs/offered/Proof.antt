@@ -27,7 +27,7 @@ returns c =
     let a = c .before .before .before .before .before .before .before .before .args in
     let told = c .before .enum-told .given .1 in
     rw (c .uncosted .ensures, told)
-    (offered-uncosted (now (a .file)) (now (a .offer)) (record { choice = []; plan = now (a .plan); keys = now (a .keys) }) _ _ (sym (c .before .before .before .offered-choice .ensures) ∙ ap offeredSaid told))
+    (offered-uncosted (now (a .file)) (now (a .offer)) (record { choice = []; plan = now (a .plan); keys = now (a .keys) }) _ _ (sym (c .before .before .before .offered-choice .ensures .0) ∙ ap offeredSaid told))
 
 header-requires : tie.Need-header-requires
 header-requires c κs = search needs
@@ -40,18 +40,20 @@ unfolding nightIn
 returns-2 c =
     let h = c .before .before in
     let a = h .before .before .before .before .before .before .before .before .before .args in
-    let said = sym (h .before .before .before .before .offered-choice .ensures) ∙ ap offeredSaid (h .before .before .answer .given .1) in
+    let said = sym (h .before .before .before .before .offered-choice .ensures .0) ∙ ap offeredSaid (h .before .before .answer .given .1) in
     offered-short (now (a .file)) (now (a .offer)) (record { choice = []; plan = now (a .plan); keys = now (a .keys) }) _ (c .before .short-of-two .result) said (rw (h .header .ensures) at (c .before .short-of-two .ensures)) (c .if1 .taken)
 
 fill-plan-requires : tie.Need-fill-plan-requires
 unfolding nightIn
 fill-plan-requires c κs =
-    let h = c .before .before .before .before in
+    let h = c .before .before .before .before .before in
     let a = h .before .before .before .before .before .before .before .before .before .args in
-    let said = sym (h .before .before .before .before .offered-choice .ensures) ∙ ap offeredSaid (h .before .before .answer .given .1) in
-    let short = c .before .before .before .short-of-two in
-    let fits = two-pass (nightOf (now (a .file))) (now (a .plan)) (now (a .keys)) (short .result) (rw (h .header .ensures) at (short .ensures)) (c .before .before .if1 .left) in
-    rw (h .header .ensures) (offered-promises (now (a .file)) (now (a .offer)) _ said, fits .1, fits .2)
+    let said = sym (h .before .before .before .before .offered-choice .ensures .0) ∙ ap offeredSaid (h .before .before .answer .given .1) in
+    let e = c .before .before .before in
+    let short = e .before .short-of-two in
+    let fits = two-pass (nightOf (now (a .file))) (now (a .plan)) (now (a .keys)) (short .result) (rw (h .header .ensures) at (short .ensures)) (e .if1 .left) in
+    let built = rw (h .before .before .answer .given .1) at (h .before .before .before .before .offered-choice .ensures .1) in
+    rw (h .header .ensures) (offered-promises (now (a .file)) (now (a .offer)) _ said, built, fits .1, fits .2)
 
 same-length : tie.Need-same-length
 same-length c = search needs
@@ -62,12 +64,12 @@ same-length-2 c = search needs
 returns-3 : tie.Need-returns-3
 unfolding nightIn
 returns-3 c =
-    let h = c .before .before .before .before .before .before .before .before .before in
+    let h = c .before .before .before .before .before .before .before .before .before .before in
     let a = h .before .before .before .before .before .before .before .before .before .args in
-    let said = sym (h .before .before .before .before .offered-choice .ensures) ∙ ap offeredSaid (h .before .before .answer .given .1) in
-    let e = c .before .before .before .before .before .before .before in
+    let said = sym (h .before .before .before .before .offered-choice .ensures .0) ∙ ap offeredSaid (h .before .before .answer .given .1) in
+    let e = c .before .before .before .before .before .before .before .before in
     let plan = c .before .before .before .before .fill-plan in
-    offered-filled (now (a .file)) (now (a .offer)) (record { choice = []; plan = now (a .plan); keys = now (a .keys) }) (record { choice = []; plan = plan .last .1 .1 .1 .0; keys = plan .last .1 .1 .1 .1 .0 }) _ (e .before .short-of-two .result) said
+    offered-filled (now (a .file)) (now (a .offer)) (record { choice = []; plan = now (a .plan); keys = now (a .keys) }) (record { choice = []; plan = plan .last .1 .1 .1 .1 .0; keys = plan .last .1 .1 .1 .1 .1 .0 }) _ (e .before .short-of-two .result) said
     (rw (h .header .ensures) at (e .before .short-of-two .ensures)) (e .if1 .left)
     (record { plan = rw (h .header .ensures) at (plan .ensures .0); keys = rw (h .header .ensures) at (plan .ensures .1) }) refl
 

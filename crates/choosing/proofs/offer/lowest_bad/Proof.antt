@@ -10,10 +10,10 @@ use Rattle.choosing.proofs.offer.lowest_bad.Statement.{statement}
 use Rattle.choosing.proofs.offer.lowest_bad.Tie as tie
 
 abbrev Inv-loop : tie.InvT-loop
-Inv-loop file h offer n i₀ i = (i ≤ n) × (first (offerBad (nightIn file h) offer) i ≡ i)
+Inv-loop file h sets offer n i₀ i = (i ≤ n) × (first (offerBad (nightIn file h) offer) i ≡ i)
 
 abbrev μ-loop : tie.MeasureT-loop
-μ-loop file h offer n i₀ i = n - i
+μ-loop file h sets offer n i₀ i = n - i
 
 loop-holds : tie.Need-loop-holds Inv-loop μ-loop
 loop-holds c = (omega arith, first-none _)
@@ -22,7 +22,9 @@ cast-offer-bad : tie.Need-cast-offer-bad Inv-loop μ-loop
 cast-offer-bad c = omega arith
 
 offer-bad-requires : tie.Need-offer-bad-requires Inv-loop μ-loop
-offer-bad-requires c κs = omega (arith, c .before .before .before .before .pre)
+offer-bad-requires c κs =
+    let pre = c .before .before .before .before .pre in
+    (omega (arith, pre .0), omega (arith, pre .1), pre .2)
 
 returns : tie.Need-returns Inv-loop μ-loop
 returns c =

@@ -1,9 +1,10 @@
 -- A leaf is asked against its owner, a step against its candidates.
-use borrow.Author.Needs.{needs}
 use mathlib.Core.Path.{refl}
 use denote.Ref.{now}
+use borrow.Author.Needs.{needs}
 use Rattle.layout.specs.Layout.{nightIn}
 use Rattle.choosing.proofs.Offers.{leaf-asked, step-asked}
+use Rattle.choosing.proofs.Sets.{set-at, subjects-step}
 use Rattle.choosing.proofs.offer.offer_bad.Statement.{statement}
 use Rattle.choosing.proofs.offer.offer_bad.Tie as tie
 
@@ -20,16 +21,34 @@ relation-requires : tie.Need-relation-requires
 relation-requires c κs = search needs
 
 returns : tie.Need-returns
-returns c = rw (← leaf-asked (nightIn (now (c .before .before .before .before .before .before .before .before .before .args .file)) (c .before .before .before .before .before .before .before .before .before .args .h)) (c .before .before .before .before .before .before .before .before .before .args .i) (c .before .before .before .before .before .node .result) (c .before .before .before .before .before .node .ensures) (now (c .before .before .before .before .before .before .before .before .before .args .offer)) (c .before .before .before .if1 .taken), ← c .before .relation .ensures) refl
+returns c =
+    let n = c .before .before .before .before .before in
+    let a = n .before .before .before .before .args in
+    rw (← leaf-asked (nightIn (now (a .file)) (a .h)) (a .i) (n .node .result) (n .node .ensures) (now (a .offer)) (c .before .before .before .if1 .taken), ← c .before .relation .ensures) refl
 
-candidate-set-requires : tie.Need-candidate-set-requires
-candidate-set-requires c κs = search needs
+mul-has : tie.Need-mul-has
+mul-has c = search needs
+
+array-read-has : tie.Need-array-read-has
+array-read-has c = search needs
 
 has-requires : tie.Need-has-requires
 has-requires c κs = search needs
 
 returns-2 : tie.Need-returns-2
-returns-2 c = rw (← step-asked (nightIn (now (c .before .before .before .before .before .before .before .before .args .file)) (c .before .before .before .before .before .before .before .before .args .h)) (c .before .before .before .before .before .before .before .before .args .i) (c .before .before .before .before .node .result) (c .before .before .before .before .node .ensures) (now (c .before .before .before .before .before .before .before .before .args .offer)) (c .before .before .if1 .left), ← c .before .candidate-set .ensures, ← c .has .ensures) refl
+returns-2 c =
+    let n = c .before .before .before in
+    let start = n .before .before .before .before in
+    let a = start .args in
+    let N = nightIn (now (a .file)) (a .h) in
+    let step = subjects-step N (a .i) (n .node .result) (n .node .ensures) (c .before .if1 .left) in
+    rw (
+      ← step-asked N (a .i) (n .node .result) (n .node .ensures) (now (a .offer)) (c .before .if1 .left),
+      ← step,
+      ← set-at N (a .t3) (a .i) (start .pre .2) (start .pre .1),
+      ← c .has .ensures,
+    )
+    refl
 
 pub offer-bad-spec : {M : Type 1} → statement M
 offer-bad-spec =
@@ -40,6 +59,7 @@ offer-bad-spec =
     cast-relation
     relation-requires
     returns
-    candidate-set-requires
+    mul-has
+    array-read-has
     has-requires
     returns-2)

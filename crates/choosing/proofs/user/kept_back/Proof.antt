@@ -1,5 +1,8 @@
 -- The test is the definition's, by what `within` ensures.
+use mathlib.Core.Path.{ap}
+use mathlib.Core.Bool.{not}
 use borrow.Author.Needs.{needs}
+use borrow.Author.Tests.{eq-eqb}
 use Rattle.laws.proofs.Cases.{cases}
 use Rattle.choosing.specs.Kept.{keptBack}
 use Rattle.choosing.proofs.user.kept_back.Statement.{statement}
@@ -10,7 +13,7 @@ within-requires c κs = search needs
 
 returns : tie.Need-returns
 unfolding keptBack
-returns c = rw (← c .within .ensures) (search cases depth 20)
+returns c = rw (eq-eqb _ 0 (c .before .if1 .taken)) (ap not (c .within .ensures))
 
 returns-2 : tie.Need-returns-2
 unfolding keptBack

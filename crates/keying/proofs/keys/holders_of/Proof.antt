@@ -1,5 +1,7 @@
 -- The set grows by one node a turn.
 use native.Mathlib.Omega.{arith}
+use borrow.Kind.Array.{eInt, good-length}
+use mir.Syntax.{w64}
 use borrow.Author.Needs.{needs}
 use Prim.Native.Nat.{ℕ, _≤_, _-_}
 use mathlib.Core.Path.{_≡_, sym, _∙_}
@@ -18,10 +20,10 @@ abbrev held : ℕ → ℕ → ℕ → ℕ → ℕ
 held group p opened sealed = if apart group (union opened sealed) then 0 else single 16 p
 
 abbrev Inv-loop : tie.InvT-loop
-Inv-loop choice opens seals n group all₀ i₀ all i = (i ≤ n) × (all ≡ unions (λ j. held group (getD choice j 0) (getD opens j 0) (getD seals j 0)) i)
+Inv-loop choice n group opens seals all₀ i₀ all i = (i ≤ n) × (all ≡ unions (λ j. held group (getD choice j 0) (getD opens j 0) (getD seals j 0)) i)
 
 abbrev μ-loop : tie.MeasureT-loop
-μ-loop choice opens seals n group all₀ i₀ all i = n - i
+μ-loop choice n group opens seals all₀ i₀ all i = n - i
 
 loop-holds : tie.Need-loop-holds Inv-loop μ-loop
 loop-holds c = (omega arith, sym (unions-none _))
@@ -30,10 +32,14 @@ subject-at-requires : tie.Need-subject-at-requires Inv-loop μ-loop
 subject-at-requires c κs = search needs
 
 set-at-requires : tie.Need-set-at-requires Inv-loop μ-loop
-set-at-requires c κs = search needs
+set-at-requires c κs =
+    let start = c .before .before .before .before .before in
+    good-length (eInt w64) 64 (start .args .t2) _ (start .good .1 .0)
 
 set-at-requires-2 : tie.Need-set-at-requires-2 Inv-loop μ-loop
-set-at-requires-2 c κs = search needs
+set-at-requires-2 c κs =
+    let start = c .before .before .before .before .before .before .before in
+    good-length (eInt w64) 64 (start .args .t3) _ (start .good .1 .1 .0)
 
 as-holder-requires : tie.Need-as-holder-requires Inv-loop μ-loop
 as-holder-requires c κs = search needs
@@ -50,10 +56,12 @@ loop-less c = omega arith
 loop-again : tie.Need-loop-again Inv-loop μ-loop
 loop-again c =
     let d = c .before .before in
-    let b = d .before .before .before .before in
+    let o = d .before .before in
+    let u = o .before .before in
+    let b = u .before .before in
     let a = b .before .before .args in
-    let subject = d .before .before .subject-at .ensures in
-    let opened = d .before .set-at .ensures in
+    let subject = u .subject-at .ensures in
+    let opened = o .set-at .ensures in
     let sealed = d .set-at2 .ensures in
     let e = c .before .as-holder .ensures ∙ (λ k. held (a .group) (subject k) (opened k) (sealed k)) in
     (omega arith, unions-turn _ (b .loop .i) (b .loop .inv .1) e (c .union .ensures))
@@ -63,7 +71,7 @@ unfolding nodeEvents
 returns c =
     let a = c .before .before .before .args in
     let e : c .before .loop .i ≡ a .n = omega arith in
-    (rw e at (c .before .loop .inv .1)) ∙ sym (holders-each (λ i. record { subject = getD (now (a .choice)) i 0; opened = getD (a .opens) i 0; sealed = getD (a .seals) i 0 }) (a .group) (a .n))
+    (rw e at (c .before .loop .inv .1)) ∙ sym (holders-each (λ i. record { subject = getD (now (a .choice)) i 0; opened = getD (a .t2) i 0; sealed = getD (a .t3) i 0 }) (a .group) (a .n))
 
 pub holders-of-spec : {M : Type 1} → statement M
 holders-of-spec =

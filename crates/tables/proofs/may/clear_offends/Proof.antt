@@ -12,7 +12,7 @@ minus-requires c κs = search needs
 
 returns : tie.Need-returns
 unfolding clearOffends
-returns c = rw (← c .before .union .ensures) (c .minus .ensures)
+returns c tied = rw (← c .before .union .ensures) (c .minus .ensures)
 
 pub clear-offends-spec : {M : Type 1} → statement M
 clear-offends-spec = tie.close (tie.spec union-requires minus-requires returns)

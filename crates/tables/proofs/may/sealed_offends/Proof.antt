@@ -15,7 +15,7 @@ minus-requires c κs = search needs
 
 returns : tie.Need-returns
 unfolding sealedOffends
-returns c = rw (← c .before .before .union .ensures, ← c .before .union2 .ensures) (c .minus .ensures)
+returns c tied = rw (← c .before .before .union .ensures, ← c .before .union2 .ensures) (c .minus .ensures)
 
 pub sealed-offends-spec : {M : Type 1} → statement M
 sealed-offends-spec = tie.close (tie.spec union-requires union-requires-2 minus-requires returns)

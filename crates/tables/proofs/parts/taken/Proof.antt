@@ -1,6 +1,7 @@
 -- The test is the definition's.
+use mathlib.Core.Path.{refl, ap}
+use Rattle.tables.specs.Columns.{columnsOf}
 use borrow.Author.Needs.{needs}
-use Rattle.laws.proofs.Cases.{cases}
 use Rattle.tables.proofs.parts.taken.Statement.{statement}
 use Rattle.tables.proofs.parts.taken.Tie as tie
 
@@ -11,10 +12,10 @@ join-requires : tie.Need-join-requires
 join-requires c κs = search needs
 
 returns : tie.Need-returns
-returns c = rw (← c .before .before .uses-right .ensures, ← c .join .ensures) (search cases depth 20)
+returns c tied other = rw (← c .before .before .uses-right .ensures, c .before .if1 .taken) (ap columnsOf (c .join .ensures tied other))
 
 returns-2 : tie.Need-returns-2
-returns-2 c = rw (← c .before .uses-right .ensures) (search cases depth 20)
+returns-2 c tied other = rw (← c .before .uses-right .ensures, c .if1 .left) refl
 
 pub taken-spec : {M : Type 1} → statement M
 taken-spec = tie.close (tie.spec uses-right-requires join-requires returns returns-2)

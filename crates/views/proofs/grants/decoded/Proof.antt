@@ -11,6 +11,7 @@ use Rattle.night.specs.declared.Header.{Header}
 use Rattle.night.specs.declared.Grant.{Grant}
 use Rattle.night.specs.Night.{grantOf, noGrant}
 use Rattle.layout.specs.Layout.{nightIn}
+use Rattle.views.specs.Stretch.{atOnce}
 use Rattle.views.proofs.grants.decoded.Statement.{statement}
 use Rattle.views.proofs.grants.decoded.Tie as tie
 
@@ -19,7 +20,7 @@ abbrev grantPast : List ℕ → Header → ℕ → ℕ → Grant
 grantPast s h from k = grantOf (nightIn s h) (from + k)
 
 abbrev Inv-loop : tie.InvT-loop
-Inv-loop file h from n out₀ i₀ out i = (length out ≡ 272) × (i ≤ n) × Agrees (λ before. grantPast file h from) noGrant i out
+Inv-loop file h from n out₀ i₀ out i = (length out ≡ atOnce) × (i ≤ n) × Agrees (λ before. grantPast file h from) noGrant i out
 
 abbrev μ-loop : tie.MeasureT-loop
 μ-loop file h from n out₀ i₀ out i = n - i
@@ -27,7 +28,7 @@ abbrev μ-loop : tie.MeasureT-loop
 loop-holds : tie.Need-loop-holds Inv-loop μ-loop
 loop-holds c =
     let a = c .before .args in
-    (refl, omega arith, agrees-none (λ before. grantPast (now (a .file)) (a .h) (a .from)) noGrant 272)
+    (refl, omega arith, agrees-none (λ before. grantPast (now (a .file)) (a .h) (a .from)) noGrant atOnce)
 
 add-grant : tie.Need-add-grant Inv-loop μ-loop
 add-grant c = omega arith

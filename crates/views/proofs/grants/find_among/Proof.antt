@@ -41,6 +41,7 @@ use denote.Exit.{yes}
 use denote.Triple.Clauses.{ensured, lasts}
 use Rattle.laws.specs.First as F
 use Rattle.laws.proofs.Lent as Lent
+use Rattle.views.specs.Stretch.{atOnce}
 use Rattle.views.proofs.Among.{forPair, first-among}
 use Rattle.night.specs.declared.Grant.{Grant}
 use Rattle.night.proofs.Grant as G
@@ -55,7 +56,7 @@ use Rattle.views.proofs.grants.find_among.Statement as stated
 use Rattle.views.proofs.grants.find_among.Code as code
 
 abbrev Arr : RattleType
-Arr = Array G.the-row 272
+Arr = Array G.the-row atOnce
 
 -- a grant's machine value, and an array's
 abbrev valOf : Grant → List Val
@@ -71,7 +72,7 @@ module _ {M : Type 1} (𝓤 : URA M) (H : Heap 𝓤) (A : Atoms 𝓤) (mem : Mem
   abbrev Find : Contract 𝓤
   Find = tripleOf 𝓤 H A find.signature (find.spec 𝓤 H A mem run)
 
-module _ {M : Type 1} (𝓤 : URA M) (H : Heap 𝓤) (A : Atoms 𝓤) (W : Given 𝓤 H A) (mem : Memory → SProp 𝓤) (run : Routine → Fun 𝓤) (xs : List Grant) (len : length xs ≡ 272) (n r p : ℕ) (okn : n < 2 ^ 64) (okr : r < 2 ^ 8) (okp : p < 2 ^ 8) (within : n ≤ 272) where
+module _ {M : Type 1} (𝓤 : URA M) (H : Heap 𝓤) (A : Atoms 𝓤) (W : Given 𝓤 H A) (mem : Memory → SProp 𝓤) (run : Routine → Fun 𝓤) (xs : List Grant) (len : length xs ≡ atOnce) (n r p : ℕ) (okn : n < 2 ^ 64) (okr : r < 2 ^ 8) (okp : p < 2 ^ 8) (within : n ≤ atOnce) where
   abbrev av : Val
   av = only (valsOf xs)
 
@@ -124,14 +125,14 @@ module _ {M : Type 1} (𝓤 : URA M) (H : Heap 𝓤) (A : Atoms 𝓤) (W : Given
     walk is₀ =
         qed W (‵ ftrue ∷ ‵ (owns (Arr ∷ usize ∷ u8 ∷ u8 ∷ []) (xs, (n, (r, (p, tt)))) at) ∷ []) ∵ enter ! C Λ code.function (av ∷ vint w64 n ∷ vint w8 r ∷ vint w8 p ∷ []) _ $
         alloc1 ! (λ l₀. alloc1 ! (λ l₁. alloc1 ! (λ l₂. alloc1 ! (λ l₃. alloc1 ! (λ l₄. alloc1 ! (λ l₅. alloc1 ! (λ l₆. alloc1 ! (λ l₇. alloc0 ! $ params1 ! $
-        pass1 ! (init ! 12 refl (array-lawful 𝓤 H A W G.the-row (LL.lawful G.the-type G′.the-laws 𝓤 H A W) 272 .typed xs _ is₀ .0)) $ pass1 ! (init ! 10 refl (tt, record { fits = okn })) $ pass1 ! (init ! 8 refl (tt, record { fits = okr })) $ pass1 ! (init ! 6 refl (tt, record { fits = okp })) $ pass0 ! $
-        assigns ! (of-opd ! (load ! (from ! (stop !)) (look ! 12 refl))) (from ! (stop !)) (init ! 4 refl (array-lawful 𝓤 H A W G.the-row (LL.lawful G.the-type G′.the-laws 𝓤 H A W) 272 .typed xs _ is₀ .0)) $
+        pass1 ! (init ! 12 refl (array-lawful 𝓤 H A W G.the-row (LL.lawful G.the-type G′.the-laws 𝓤 H A W) atOnce .typed xs _ is₀ .0)) $ pass1 ! (init ! 10 refl (tt, record { fits = okn })) $ pass1 ! (init ! 8 refl (tt, record { fits = okr })) $ pass1 ! (init ! 6 refl (tt, record { fits = okp })) $ pass0 ! $
+        assigns ! (of-opd ! (load ! (from ! (stop !)) (look ! 12 refl))) (from ! (stop !)) (init ! 4 refl (array-lawful 𝓤 H A W G.the-row (LL.lawful G.the-type G′.the-laws 𝓤 H A W) atOnce .typed xs _ is₀ .0)) $
         assigns ! (addr ! (from ! (stop !))) (from ! (stop !)) (init ! 2 refl (tt, tt)) $
         assigns ! (agg ! (and-then ! (load ! (from ! (stop !)) (look ! 2 refl)) (and-then ! (load ! (from ! (stop !)) (look ! 10 refl)) (no-more !)))) (from ! (stop !)) (init ! 0 refl (tt, (tt, (record { fits = okn }, tt)))) $
         -- [_7; …; _6; …; _5; …; _4; …; _3; …; _2; …; _1; …; room for _0; …; true; what the parameters own]
         move ! (17 ∷ []) $ fsplit ! $ lft-new ! tt (λ α. move ! (7 ∷ 1 ∷ []) $
         use2 W (later (some (λ (γ : GName). ‵ (Slice α l₅ γ) ⊛ ‵ (Lent.Kept G.the-row xs n l₅ (α ∷ [])))))
-        (Lent.lends-front 𝓤 H A W G.the-row tt 272 xs len l₅ n (α ∷ []) av (named 0) (lit< tt, lit< tt) within) $ await ! tt $ pick ! (λ γ. split ! $
+        (Lent.lends-front 𝓤 H A W G.the-row tt atOnce xs len l₅ n (α ∷ []) av (named 0) (lit< tt, lit< tt) within) $ await ! tt $ pick ! (λ γ. split ! $
         -- [the slice; what is kept; the token; what n, r and p own; _7; …; _6; …; _5's end; _4; …]
         move ! (2 ∷ 0 ∷ []) $ use2 W (raw (Find 𝓤 H A mem run .pre (to α l₅ γ))) (goes α l₅ γ) $
         -- [pre; what is kept; what n, r and p own; _7; …; _6; …; _5's end; _4; …; _3; …; _2; …; _1; …; _0; …; true]
@@ -143,7 +144,7 @@ module _ {M : Type 1} (𝓤 : URA M) (H : Heap 𝓤) (A : Atoms 𝓤) (W : Given
         land ! (from ! (stop !)) (init ! 17 refl (uint-lawful 𝓤 H A W w64 .typed i _ is .0)) $
         -- the lifetime ends, and the array is the function's again
         move ! (1 ∷ []) $ split ! $ lft-end ! tt $ move ! (0 ∷ 3 ∷ []) $
-        use2 W (later (‵ (fat fullShare (Lent.arrayTy G.the-row 272) l₅ 0 av))) (Lent.front-back 𝓤 H A W G.the-row tt 272 xs len l₅ n (α ∷ []) valOf (LL.tells G.the-type G′.the-laws)) $ await ! tt $
+        use2 W (later (‵ (fat fullShare (Lent.arrayTy G.the-row atOnce) l₅ 0 av))) (Lent.front-back 𝓤 H A W G.the-row tt atOnce xs len l₅ n (α ∷ []) valOf (LL.tells G.the-type G′.the-laws)) $ await ! tt $
         -- [_5; true; the result; what n, r and p own; _7; …; _6; …; _5's end; _4; …; _3; …; _2; …; _1; …; _0; …; true]
         returns ! (look ! 17 refl) $ forget ! 0 refl $ forget ! 4 refl $ forget ! 6 refl $ forget ! 9 refl $ forget ! 11 refl $ forget ! 13 refl $ forget ! 15 refl $ forget ! 17 refl $
         move ! (17 ∷ 18 ∷ []) $ free1 ! $ move ! (15 ∷ 16 ∷ []) $ free1 ! $ move ! (13 ∷ 14 ∷ []) $ free1 ! $ move ! (11 ∷ 12 ∷ []) $ free1 ! $ move ! (9 ∷ 10 ∷ []) $ free1 ! $ move ! (0 ∷ 8 ∷ []) $ free1 ! $ move ! (5 ∷ 6 ∷ []) $ free1 ! $ move ! (3 ∷ 4 ∷ []) $ free1 ! $ free0 ! $
@@ -152,8 +153,8 @@ module _ {M : Type 1} (𝓤 : URA M) (H : Heap 𝓤) (A : Atoms 𝓤) (W : Given
 module _ {M : Type 1} (𝓤 : URA M) (H : Heap 𝓤) (A : Atoms 𝓤) (W : Given 𝓤 H A) (mem : Memory → SProp 𝓤) (run : Routine → Fun 𝓤) where
   self-walks : (C : Calls 𝓤 H) (Λ : Loops 𝓤 H) → FmC 𝓤 H (W .laws) C → Triple 𝓤 (C #views·grants·find) (Find 𝓤 H A mem run) → Walks 𝓤 H A self.ended stayed (WpFn 𝓤 H C Λ code.function) (self.clauses 𝓤 H A mem run)
   self-walks C Λ fm known = walked 𝓤 H A self.ended stayed (self.clauses 𝓤 H A mem run) (WpFn 𝓤 H C Λ code.function)
-      (λ κs. (valsOf, (uint-vals w64, (uint-vals w8, (uint-vals w8, tt))))) (λ κs. (array-tells G.the-row valOf (LL.tells G.the-type G′.the-laws) 272, (uint-tells w64, (uint-tells w8, (uint-tells w8, tt)))))
-      (λ κs qs bounds a g are. needs 𝓤 (a .1 .0 ≤ 272) _ (λ within.
+      (λ κs. (valsOf, (uint-vals w64, (uint-vals w8, (uint-vals w8, tt))))) (λ κs. (array-tells G.the-row valOf (LL.tells G.the-type G′.the-laws) atOnce, (uint-tells w64, (uint-tells w8, (uint-tells w8, tt)))))
+      (λ κs qs bounds a g are. needs 𝓤 (a .1 .0 ≤ atOnce) _ (λ within.
       walk 𝓤 H A W mem run (a .0) (are .0 .1 .0 .1) (a .1 .0) (a .1 .1 .0) (a .1 .1 .1 .0) (are .1 .0 .1) (are .1 .1 .0 .1) (are .1 .1 .1 .0 .1) within C Λ fm known (are .0)))
 
 self-meets : {M : Type 1} (𝓤 : URA M) (H : Heap 𝓤) (A : Atoms 𝓤) (W : Given 𝓤 H A) (mem : Memory → SProp 𝓤) (run : Routine → Fun 𝓤) (𝓣 : Tables 𝓤 H)

@@ -1,0 +1,42 @@
+-- Each record of the copied bytes is that of the file.
+use borrow.Author.Needs.{needs}
+use mathlib.Core.Path.{_∙_}
+use denote.Ref.{now}
+use Rattle.layout.proofs.Read.{relation-copied, grant-copied, node-copied}
+use Rattle.layout.proofs.short.all_at.Statement.{statement}
+use Rattle.layout.proofs.short.all_at.Tie as tie
+
+padded-requires : tie.Need-padded-requires
+padded-requires c κs = search needs
+
+slice-aggregate-part : tie.Need-slice-aggregate-part
+slice-aggregate-part c = search needs
+
+relation-in-requires : tie.Need-relation-in-requires
+relation-in-requires c κs = search needs
+
+grant-in-requires : tie.Need-grant-in-requires
+grant-in-requires c κs = search needs
+
+node-in-requires : tie.Need-node-in-requires
+node-in-requires c κs = search needs
+
+returns : tie.Need-returns
+returns c =
+    let b = c .before .before .before .before in
+    let a = b .before .before .args in (
+      c .before .before .relation-in .ensures ∙ relation-copied (now (a .file)) (a .at) (b .padded .result) (b .padded .ensures),
+      c .before .grant-in .ensures ∙ grant-copied (now (a .file)) (a .at) (b .padded .result) (b .padded .ensures),
+      c .node-in .ensures ∙ node-copied (now (a .file)) (a .at) (b .padded .result) (b .padded .ensures),
+    )
+
+pub all-at-spec : {M : Type 1} → statement M
+all-at-spec =
+    tie.close
+    (tie.spec
+    padded-requires
+    slice-aggregate-part
+    relation-in-requires
+    grant-in-requires
+    node-in-requires
+    returns)

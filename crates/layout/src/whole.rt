@@ -1,0 +1,53 @@
+// The records that a file has whole: one test of its length stands for all fields, and each is a plain load.
+use crate::bytes;
+use night::Grant;
+use night::Node;
+use night::Relation;
+ghost use mathlib.Core.Path.{_≡_};
+ghost use Prim.Native.Nat.{_+_, _≤_};
+ghost use lib.ListN.{length};
+ghost use Rattle.layout.specs.Layout.{relationAt, grantAt, nodeAt};
+
+// A relation's record.
+pub(crate) fn relation_in(file: &[u8], at: usize) -> Relation
+    requires { ⌜ at + 9 ≤ length (now file) ⌝ }
+    ensures { λ r. ⌜ r ≡ relationAt (now (file .entry)) at ⌝ }
+{
+    Relation {
+        owner: file[at],
+        set: bytes::eight_in(file, at + 1),
+    }
+}
+
+// A grant's record.
+pub(crate) fn grant_in(file: &[u8], at: usize) -> Grant
+    requires { ⌜ at + 18 ≤ length (now file) ⌝ }
+    ensures { λ r. ⌜ r ≡ grantAt (now (file .entry)) at ⌝ }
+{
+    Grant {
+        relation: file[at],
+        subject: file[at + 1],
+        clear: bytes::eight_in(file, at + 2),
+        sealed: bytes::eight_in(file, at + 10),
+    }
+}
+
+// A node's record.
+pub(crate) fn node_in(file: &[u8], at: usize) -> Node
+    requires { ⌜ at + 28 ≤ length (now file) ⌝ }
+    ensures { λ r. ⌜ r ≡ nodeAt (now (file .entry)) at ⌝ }
+{
+    Node {
+        kind: file[at],
+        left: file[at + 1],
+        right: file[at + 2],
+        x: file[at + 3],
+        y: file[at + 4],
+        spare1: file[at + 5],
+        spare2: file[at + 6],
+        spare3: file[at + 7],
+        set: bytes::eight_in(file, at + 8),
+        needed: bytes::eight_in(file, at + 16),
+        size: bytes::four_in(file, at + 24),
+    }
+}

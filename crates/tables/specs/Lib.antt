@@ -1,0 +1,2 @@
+-- Tables whose tied sets stand in lent room.
+pub mod Columns

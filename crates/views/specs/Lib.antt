@@ -1,0 +1,2 @@
+-- How the grants are gone through.
+pub mod Stretch
