@@ -1,13 +1,15 @@
 /* Tollburrow for C and C++: link target/staticlib/libtollburrow.a (written by `rt staticlib tollburrow`, for x86-64).
  *
- * Every function takes any bytes and ends. It returns 0, or the refusal as number * 2^32 + place (the numbers and places of the rules' table). A refusal
+ * Every function takes any bytes or values and ends. It returns 0, or the refusal as number * 2^32 + place (the numbers and places of the rules' table). A refusal
  * writes nothing anywhere.
  *
  * Of its caller a function asks this much of the pointers:
- * - A file, an offer or a room that is passed with a length has that many elements there. With a length of 0 any pointer will do, a null pointer too.
- * - A pointer to a single number (from, length, set, table, condition, total, steps) points to one.
+ * - A file, an offer, records, prices or a room that are passed with a length have that many elements there. With a length of 0 any pointer will do, a null
+ *   pointer too.
+ * - A pointer to a single number (from, length, set, table, condition, total, steps, written) or to a header points to one.
+ * - A pointer to records, prices, a header or numbers is aligned as the compiler aligns them.
  * - What a function writes to overlaps nothing else that it is passed: no two rooms or numbers share a byte, nor does one of them share a byte with the
- *   file or the offer. With plan and keys in one room, say, the answer is 0 and the keys have overwritten the plan. */
+ *   file, the offer, the header, records or prices. With plan and keys in one room, say, the answer is 0 and the keys have overwritten the plan. */
 #ifndef TOLLBURROW_H
 #define TOLLBURROW_H
 
@@ -49,6 +51,41 @@ uint64_t tollburrow_cheapest(const uint8_t *file, uint64_t file_length, uint8_t 
 /* The plan for an offered choice, a subject for each node: plan and keys as above, and the choice's total. Refusals 1 to 11, 17, 14, 15. */
 uint64_t tollburrow_offered(const uint8_t *file, uint64_t file_length, const uint8_t *offer, uint64_t offer_length, uint64_t *plan, uint64_t plan_length,
                             uint64_t *keys, uint64_t keys_length, uint64_t *total);
+
+/* The values of a plan file, every field as it stands there. In version 1 the user means nothing: it is not written, and read back as 0. */
+struct tollburrow_header {
+  uint16_t version;
+  uint8_t subjects, relations, attributes, nodes;
+  uint16_t grants;
+  uint32_t steps;
+  uint8_t user;
+};
+
+struct tollburrow_relation {
+  uint8_t owner;
+  uint64_t set;
+};
+
+/* subject 255 is any */
+struct tollburrow_grant {
+  uint8_t relation, subject;
+  uint64_t clear, sealed;
+};
+
+struct tollburrow_node {
+  uint8_t kind, left, right, x, y, spare1, spare2, spare3;
+  uint64_t set, needed;
+  uint32_t size;
+};
+
+/* Writes the file of these values into the room, and how many bytes it has: the records in the file's order, the prices row after row. What lies behind
+ * the file in the room stays. Refusals: 2 an unknown version; 4; 3 where relations, grants, nodes, step prices or link prices are not as many as the counts
+ * say; 5 to 11 as reading would refuse the file, number and place; then 15, place 4, for a room that is shorter than the file. What was written is a file
+ * that tollburrow_check accepts, with the same values in it. */
+uint64_t tollburrow_write(const struct tollburrow_header *header, const struct tollburrow_relation *relations, uint64_t relations_length,
+                          const struct tollburrow_grant *grants, uint64_t grants_length, const struct tollburrow_node *nodes, uint64_t nodes_length,
+                          const uint32_t *step_prices, uint64_t step_prices_length, const uint32_t *link_prices, uint64_t link_prices_length,
+                          uint8_t *room, uint64_t room_length, uint64_t *written);
 
 #ifdef __cplusplus
 }

@@ -177,9 +177,17 @@ WITH_USER = [
 
 
 # the entries, by the number that a case has
-CHECK, CHEAPEST, OFFERED, WHY = range(4)
+CHECK, CHEAPEST, OFFERED, WHY, REWRITE = range(5)
 WIDE = (64, 128, 128)
 EXACT = (6, 12, 12)
+
+
+def changed(data, length, edits):
+    file = bytearray(data[:length].ljust(length, b"\0"))
+    for at, value in edits.items():
+        if at < length:
+            file[at] = value
+    return bytes(file)
 
 
 def allowed(file, steps):
@@ -275,14 +283,35 @@ WHYS = [
     ("3 before 16", sample()[:-1], 0, 0, "refused 3 place 0"),
     ("why, I at the join, where X asked", with_user(sample(), 3), 3, 1, "result 3 0,4"),
 ]
-
-
-def changed(data, length, edits):
-    file = bytearray(data[:length].ljust(length, b"\0"))
-    for at, value in edits.items():
-        if at < length:
-            file[at] = value
-    return bytes(file)
+# room for any file
+LONGEST = 11968
+# name, file, length of the room, what ticket 2026-04 says of the file written again from its values; all else in the room has to stay
+REWRITES = [
+    ("rewritten, the sample night", sample(), LONGEST, "741 bytes"),
+    ("rewritten, 741 bytes of room", sample(), 741, "741 bytes"),
+    ("rewritten, a byte more of room", sample(), 742, "741 bytes"),
+    ("15 740 bytes of room", sample(), 740, "refused 15 place 4"),
+    ("15 no room", sample(), 0, "refused 15 place 4"),
+    ("rewritten, U as user", with_user(sample(), 2), LONGEST, "742 bytes"),
+    ("15 741 bytes of room, U as user", with_user(sample(), 2), 741, "refused 15 place 4"),
+    ("rewritten, all nine kinds", all_kinds(), 590, "590 bytes"),
+    ("rewritten, a leaf alone", alone([(0, 0, 1, 0)]), 78, "78 bytes"),
+    ("rewritten, the longest file", longest(), 11967, "11967 bytes"),
+    ("rewritten, the longest file of version 2", with_user(longest(), 15), LONGEST, "11968 bytes"),
+    ("15 11,967 bytes of room for 11,968", with_user(longest(), 15), 11967, "refused 15 place 4"),
+    ("rewritten, where 12 is not asked", parted(), 193, "193 bytes"),
+    ("rewritten, where 13 is not asked", allowed(sample(), 0), 741, "741 bytes"),
+    ("rewritten, where 17 is not asked", with_user(sample(), 0), 742, "742 bytes"),
+    ("rewritten, 3 740 bytes", sample()[:740], LONGEST, "refused 3 place 0"),
+    ("rewritten, 3 742 bytes", sample() + b"\0", LONGEST, "refused 3 place 0"),
+    ("rewritten, 3 before 5", changed(sample(), 740, {15: 6}), LONGEST, "refused 3 place 0"),
+    ("rewritten, 4 user 6 of 6", with_user(sample(), 6), LONGEST, "refused 4 place 0"),
+    ("rewritten, 6 sealed outside the relation", changed(sample(), 741, {176: 33}), LONGEST, "refused 6 place 7"),
+    ("rewritten, 6 before 15", changed(sample(), 741, {176: 33}), 740, "refused 6 place 7"),
+    ("rewritten, 8 third spare byte", changed(sample(), 741, {348: 1}), LONGEST, "refused 8 place 2"),
+    ("rewritten, 11 last link, U as user", with_user(changed(sample(), 741, {740: 1}), 2), LONGEST, "refused 11 place 71"),
+    ("rewritten, 11 before 15", changed(sample(), 741, {740: 1}), 0, "refused 11 place 71"),
+]
 
 
 def case(name, entry, rooms, offer, file):
@@ -318,6 +347,10 @@ def main():
         for name, file, node, subject, said in WHYS + [("why, " + name, file, 0, 0, said) for name, file, said in refused]:
             given.write(case(name, WHY, (0, 0, 0), struct.pack(">II", node, subject), file))
             expected.write("%s: %s\n" % (name, said))
+        lent = [("rewritten, ", LONGEST), ("rewritten in no room, ", 0)]
+        for name, file, room, said in REWRITES + [(how + name, file, room, said) for how, room in lent for name, file, said in refused]:
+            given.write(case(name, REWRITE, (0, 0, 0), struct.pack(">I", room), file))
+            expected.write("%s: %s, rooms kept\n" % (name, said))
 
 
 if __name__ == "__main__":

@@ -8,6 +8,7 @@ use crate::reading::Refusal;
 use crate::slips;
 use crate::usercount::Users;
 use crate::whys::SORTS;
+use crate::writecount::Writes;
 
 /// From so many cases on, with one large file in so many, each line of the
 /// table has to reach its floor: a bit less than what such runs reach.
@@ -119,6 +120,7 @@ pub struct Coverage {
     tiny: Tiny,
     whys: Whys,
     pub users: Users,
+    pub writes: Writes,
 }
 
 pub fn count(yes: bool) -> usize {
@@ -241,6 +243,7 @@ impl Coverage {
         }
         lines.extend(self.lines_of_whys());
         lines.extend(self.users.lines());
+        lines.extend(self.writes.lines());
         lines.extend(self.lines_of_pointers());
         lines.extend(self.lines_of_runs());
         lines

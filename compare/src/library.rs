@@ -4,7 +4,9 @@
 use crate::generate::Case;
 use crate::planner::Rooms;
 use crate::record::{Outcome, Record, Told};
+use crate::values::{Grant, Header, Node, Relation, Values};
 use crate::why::Question;
+use crate::writer::{Order, Written};
 
 unsafe extern "C" {
     fn tollburrow_check(file: *const u8, n: usize) -> u64;
@@ -43,24 +45,44 @@ unsafe extern "C" {
         condition: *mut u8,
         set: *mut u64,
     ) -> u64;
+    fn tollburrow_write(
+        header: *const Header,
+        relations: *const Relation,
+        r: usize,
+        grants: *const Grant,
+        g: usize,
+        nodes: *const Node,
+        n: usize,
+        step_prices: *const u32,
+        s: usize,
+        link_prices: *const u32,
+        l: usize,
+        room: *mut u8,
+        length: usize,
+        written: *mut u64,
+    ) -> u64;
 }
 
-/// Where what is lent lies; where nothing is, the case's bare address.
-fn at<T>(case: &Case, lent: usize, start: *const T) -> *const T {
-    if lent == 0 { std::ptr::without_provenance(case.bare) } else { start }
+// As C lays the records out on both machines that the library is built for.
+const _: () = assert!(size_of::<Header>() == 16 && size_of::<Relation>() == 16);
+const _: () = assert!(size_of::<Grant>() == 24 && size_of::<Node>() == 32);
+
+/// Where what is lent lies; where nothing is, the bare address.
+fn at<T>(bare: usize, lent: usize, start: *const T) -> *const T {
+    if lent == 0 { std::ptr::without_provenance(bare) } else { start }
 }
 
-fn room<T>(case: &Case, lent: usize, room: &mut [T]) -> *mut T {
-    at(case, lent, room.as_mut_ptr()).cast_mut()
+fn room<T>(bare: usize, lent: usize, room: &mut [T]) -> *mut T {
+    at(bare, lent, room.as_mut_ptr()).cast_mut()
 }
 
-/// A file or an offer as it is passed: its address and its length.
-fn passed(case: &Case, bytes: &[u8]) -> (*const u8, usize) {
-    (at(case, bytes.len(), bytes.as_ptr()), bytes.len())
+/// A file, an offer or a list as it is passed: its address and its length.
+fn passed<T>(bare: usize, items: &[T]) -> (*const T, usize) {
+    (at(bare, items.len(), items.as_ptr()), items.len())
 }
 
 fn grants(case: &Case, untouched: u64) -> [u64; 3] {
-    let (file, n) = passed(case, &case.file);
+    let (file, n) = passed(case.bare, &case.file);
     let (mut from, mut length) = (untouched, untouched);
     // SAFETY: a slice with its length, and two numbers of our own.
     let code = unsafe { tollburrow_grant_records(file, n, &mut from, &mut length) };
@@ -68,7 +90,7 @@ fn grants(case: &Case, untouched: u64) -> [u64; 3] {
 }
 
 fn candidates(case: &Case, node: usize, untouched: u16) -> (u64, u16) {
-    let (file, n) = passed(case, &case.file);
+    let (file, n) = passed(case.bare, &case.file);
     let mut set = untouched;
     // SAFETY: a slice with its length, and a number of our own.
     let code = unsafe { tollburrow_candidates(file, n, node, &mut set) };
@@ -76,7 +98,7 @@ fn candidates(case: &Case, node: usize, untouched: u16) -> (u64, u16) {
 }
 
 fn why(case: &Case, asked: Question) -> Told {
-    let (file, n) = passed(case, &case.file);
+    let (file, n) = passed(case.bare, &case.file);
     let mut told = Told::untouched(case.fill);
     let Told { table, condition, set, .. } = &mut told;
     // SAFETY: a slice with its length, and three numbers of our own.
@@ -87,18 +109,18 @@ fn why(case: &Case, asked: Question) -> Told {
 
 fn cheapest(case: &Case) -> Outcome {
     let mut out = Outcome::untouched(&case.rooms, case.fill);
-    let (file, n) = passed(case, &case.file);
+    let (file, n) = passed(case.bare, &case.file);
     let Rooms { choice, plan, keys } = case.rooms;
     // SAFETY: each room is longer than the length that is lent of it.
     out.code = unsafe {
         tollburrow_cheapest(
             file,
             n,
-            room(case, choice, &mut out.choice),
+            room(case.bare, choice, &mut out.choice),
             choice,
-            room(case, plan, &mut out.plan),
+            room(case.bare, plan, &mut out.plan),
             plan,
-            room(case, keys, &mut out.keys),
+            room(case.bare, keys, &mut out.keys),
             keys,
             &mut out.total,
             &mut out.steps,
@@ -109,8 +131,8 @@ fn cheapest(case: &Case) -> Outcome {
 
 fn offered(case: &Case) -> Outcome {
     let mut out = Outcome::untouched(&case.rooms, case.fill);
-    let (file, n) = passed(case, &case.file);
-    let (offer, o) = passed(case, &case.offer);
+    let (file, n) = passed(case.bare, &case.file);
+    let (offer, o) = passed(case.bare, &case.offer);
     let Rooms { plan, keys, .. } = case.rooms;
     // SAFETY: each room is longer than the length that is lent of it.
     out.code = unsafe {
@@ -119,9 +141,9 @@ fn offered(case: &Case) -> Outcome {
             n,
             offer,
             o,
-            room(case, plan, &mut out.plan),
+            room(case.bare, plan, &mut out.plan),
             plan,
-            room(case, keys, &mut out.keys),
+            room(case.bare, keys, &mut out.keys),
             keys,
             &mut out.total,
         )
@@ -131,7 +153,7 @@ fn offered(case: &Case) -> Outcome {
 
 pub fn record(case: &Case) -> Record {
     let untouched = u64::from_ne_bytes([case.fill; 8]);
-    let (file, n) = passed(case, &case.file);
+    let (file, n) = passed(case.bare, &case.file);
     let of_node = |&node: &usize| candidates(case, node, untouched as u16);
     Record {
         // SAFETY: a slice with its length.
@@ -142,4 +164,26 @@ pub fn record(case: &Case) -> Record {
         cheapest: cheapest(case),
         offered: offered(case),
     }
+}
+
+pub fn write(order: &Order) -> Written {
+    let Order { values, room: lent, bare, .. } = order;
+    let Values { header, relations, grants, nodes, step_prices, link_prices } = values;
+    let mut out = Written::untouched(order);
+    let (relations, r) = passed(*bare, relations);
+    let (grants, g) = passed(*bare, grants);
+    let (nodes, n) = passed(*bare, nodes);
+    let (steps, s) = passed(*bare, step_prices);
+    let (links, l) = passed(*bare, link_prices);
+    let start = room(*bare, *lent, &mut out.room);
+    let written = &mut out.written;
+    // SAFETY: slices with their lengths; the room is longer than what is lent of it.
+    out.code = unsafe {
+        tollburrow_write(
+            header, relations, r, grants, g, nodes, n, steps, s, links, l, start, *lent, written,
+        )
+    };
+    // SAFETY: a slice with its length.
+    out.check = out.file().map(|file| unsafe { tollburrow_check(file.as_ptr(), file.len()) });
+    out
 }

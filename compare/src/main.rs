@@ -13,97 +13,59 @@ mod generate;
 mod library;
 mod longest;
 mod night;
+mod options;
+mod orders;
 mod planner;
 mod plans;
 mod program;
 mod reading;
 mod record;
+mod rewrites;
 mod rng;
 mod run;
 mod served;
 mod sets;
 mod slips;
+mod standin;
 mod starts;
 mod text;
 mod usercount;
 mod users;
 mod userslips;
 mod valid;
+mod valuefaults;
+mod values;
 mod views;
 mod why;
 mod whys;
+mod writecount;
+mod writer;
+mod writes;
 
 use std::process::ExitCode;
 use std::time::{Duration, Instant};
 
 use coverage::{Coverage, Line};
 use generate::Case;
+use options::Options;
 use planner::Study;
 use reading::Refusal;
 use record::Record;
 use rng::Rng;
 use starts::Starts;
 use why::Verdict;
+use writes::{Asked, Writer};
 
-/// The linked library's record of a case.
-type Linked = fn(&Case) -> Record;
+/// The linked library's record of a case, and its writer.
+#[derive(Clone, Copy)]
+struct Linked {
+    record: fn(&Case) -> Record,
+    writer: Writer,
+}
 #[cfg(feature = "library")]
-const LINKED: Option<Linked> = Some(library::record);
+const LINKED: Option<Linked> = Some(Linked { record: library::record, writer: library::write });
 #[cfg(not(feature = "library"))]
 const LINKED: Option<Linked> = None;
-
-struct Options {
-    cases: usize,
-    seed: u64,
-    large_every: usize,
-    lines: usize,
-    answers: Option<String>,
-    plan: Option<String>,
-    why: Option<String>,
-    night: Option<String>,
-    night2: Option<String>,
-    longest: Option<(String, usize)>,
-    alone: bool,
-}
-
-fn options() -> Result<Options, String> {
-    let mut options = Options {
-        cases: coverage::FULL,
-        seed: 1,
-        large_every: coverage::FULL_LARGE,
-        lines: 1_000,
-        answers: None,
-        plan: None,
-        why: None,
-        night: None,
-        night2: None,
-        longest: None,
-        alone: false,
-    };
-    let mut words = std::env::args().skip(1);
-    while let Some(word) = words.next() {
-        let mut value = || words.next().ok_or(format!("{word} needs a value"));
-        let number = |text: String| text.parse::<u64>().map_err(|_| format!("{text}: no number"));
-        match &word[..] {
-            "--alone" => options.alone = true,
-            "--answers" => options.answers = Some(value()?),
-            "--plan" => options.plan = Some(value()?),
-            "--why" => options.why = Some(value()?),
-            "--night" => options.night = Some(value()?),
-            "--night2" => options.night2 = Some(value()?),
-            "--longest" => options.longest = Some((value()?, number(value()?)? as usize)),
-            "--cases" => options.cases = number(value()?)? as usize,
-            "--seed" => options.seed = number(value()?)?,
-            "--lines" => options.lines = number(value()?)? as usize,
-            "--large" => options.large_every = number(value()?)?.max(1) as usize,
-            _ => return Err(format!("{word}: no such option")),
-        }
-    }
-    if !options.alone && options.longest.is_none() && LINKED.is_none() {
-        return Err("built without the library: only --alone and --longest can be run".into());
-    }
-    Ok(options)
-}
 
 /// Checks the sample night, in the versions that are there.
 fn nights(options: &Options) -> Result<(), String> {
@@ -157,6 +119,9 @@ struct Runner {
     stream: answers::Stream,
     plans: Starts,
     whys: Starts,
+    rewrites: Starts,
+    linked: Option<Linked>,
+    writer: Asked,
     in_library: Duration,
 }
 
@@ -171,15 +136,16 @@ impl Runner {
         let study = planner::study(&case.file);
         let verdicts = why::verdicts(&study, &case.questions);
         examine::examine(case, &study, &verdicts, &mut self.coverage)?;
-        if let Some(linked) = LINKED.filter(|_| !self.options.alone) {
+        if let Some(linked) = self.linked {
             let expected = record::expected(&study, &verdicts, case);
             let start = Instant::now();
-            let given = linked(case);
+            let given = (linked.record)(case);
             self.in_library += start.elapsed();
             if let Some(text) = expected.difference(&given, &case.questions) {
                 return Err(text);
             }
         }
+        self.writer.case(self.options.seed, index, case, &study, &mut self.coverage)?;
         if send {
             self.stream.add(label(&self.options, index, case), case, &study);
         }
@@ -199,6 +165,13 @@ impl Runner {
             && self.plans.takes(plans::sort(study), index, cases)
         {
             plans::compare(command, &case.file, study)?;
+        }
+        if let Some(command) = &self.options.rewrite {
+            for (sort, room) in rewrites::sorts(study, index, case.file.len()) {
+                if self.rewrites.takes(sort, index, cases) {
+                    rewrites::compare(command, &case.file, room)?;
+                }
+            }
         }
         let Some(command) = &self.options.why else { return Ok(()) };
         for (&asked, verdict) in case.questions.iter().zip(verdicts) {
@@ -237,6 +210,11 @@ impl Runner {
             whys::compare_odd(command, &self.readable(with_step))?;
             lines.extend(self.whys.lines());
         }
+        if let Some(command) = &self.options.rewrite {
+            rewrites::compare_lengths(command, self.options.seed)?;
+            rewrites::compare_odd(command, &self.readable(|_| true))?;
+            lines.extend(self.rewrites.lines());
+        }
         Ok(lines)
     }
 
@@ -246,7 +224,9 @@ impl Runner {
         for (index, send) in sent(&self.options).into_iter().enumerate() {
             self.case(index, send)?;
         }
-        let (whole, library) = (start.elapsed().as_secs_f64(), self.in_library.as_secs_f64());
+        let in_writer = if self.linked.is_some() { self.writer.spent } else { Duration::ZERO };
+        let whole = start.elapsed().as_secs_f64();
+        let library = (self.in_library + in_writer).as_secs_f64();
         let lines = [self.coverage.lines(), self.programs()?].concat();
         println!("cases: {}, seed {}", self.options.cases, self.options.seed);
         println!("seconds: {whole:.1}, of these in the library {library:.1}");
@@ -262,13 +242,18 @@ fn done(options: Options) -> Result<String, String> {
         return Ok(format!("{count} files written"));
     }
     let (coverage, stream) = (Coverage::default(), answers::Stream::default());
-    let (plans, whys) = (plans::starts(), whys::starts());
-    Runner { options, coverage, stream, plans, whys, in_library: Duration::ZERO }.all()?;
+    let (plans, whys, rewrites) = (plans::starts(), whys::starts(), rewrites::starts());
+    let linked = LINKED.filter(|_| !options.alone);
+    let writer = linked.map_or(standin::write as Writer, |linked| linked.writer);
+    let writer = Asked { writer, spent: Duration::ZERO };
+    let in_library = Duration::ZERO;
+    Runner { options, coverage, stream, plans, whys, rewrites, linked, writer, in_library }
+        .all()?;
     Ok("no difference".into())
 }
 
 fn main() -> ExitCode {
-    match options().and_then(done) {
+    match options::options().and_then(done) {
         Ok(text) => {
             println!("{text}");
             ExitCode::SUCCESS

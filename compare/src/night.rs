@@ -3,8 +3,11 @@
 
 use crate::file::USER_AT;
 use crate::planner::study;
+use crate::reading::refuse;
 use crate::text;
+use crate::values::Values;
 use crate::why::{Question, verdicts};
+use crate::writer;
 
 /// Who asks in the night's version 2, and what that changes in the text.
 const USER: u8 = 2;
@@ -43,6 +46,7 @@ pub fn check(bytes: &[u8]) -> Result<(), String> {
     expect("75 steps allowed", &fewer, "refused 13 place 0\n")?;
     expect("740 bytes", &bytes[..740], "refused 3 place 0\n")?;
     expect("742 bytes", &[bytes, &[0]].concat(), "refused 3 place 0\n")?;
+    written_again(bytes)?;
     figures(bytes)?;
     check_2(&in_version_2(bytes))
 }
@@ -64,6 +68,7 @@ pub fn check_2(bytes: &[u8]) -> Result<(), String> {
         expect("version 2, cut", &bytes[..length], "refused 3 place 0\n")?;
     }
     expect("version 2, 743 bytes", &[bytes, &[0]].concat(), "refused 3 place 0\n")?;
+    written_again(bytes)?;
     let mut other = bytes.to_vec();
     for (user, leaf) in OTHER_USERS {
         other[USER_AT] = user;
@@ -74,6 +79,16 @@ pub fn check_2(bytes: &[u8]) -> Result<(), String> {
     other[USER_AT] = NOBODY;
     expect(&format!("user {NOBODY}"), &other, "refused 4 place 0\n")?;
     figures(bytes)
+}
+
+/// The night's values give its bytes, if there is room for them all.
+fn written_again(bytes: &[u8]) -> Result<(), String> {
+    let written = |room: usize| Values::of(bytes).and_then(|values| writer::verdict(&values, room));
+    let (whole, short) = (written(bytes.len()), written(bytes.len() - 1));
+    if whole.as_deref() == Ok(bytes) && short == refuse(15, 4) {
+        return Ok(());
+    }
+    Err(format!("the sample night, written again: {whole:?}; with room short by one: {short:?}"))
 }
 
 /// The candidates, and why one is out.

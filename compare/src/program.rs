@@ -1,5 +1,5 @@
-//! Programs: words after their name, bytes over their standard input, the text
-//! they print.
+//! Programs: words after their name, bytes over their standard input, the bytes
+//! or the text they print.
 
 use std::ffi::OsStr;
 use std::io::Write;
@@ -9,7 +9,7 @@ use std::process::{Command, Stdio};
 
 /// What a program printed, and what it said over standard error.
 pub struct Said {
-    pub printed: String,
+    pub printed: Vec<u8>,
     pub error: String,
 }
 
@@ -36,13 +36,21 @@ pub fn ask(command: &str, words: &[&[u8]], input: &[u8]) -> Result<Said, String>
         });
         child.wait_with_output().map_err(told)
     })?;
-    let text = |bytes| String::from_utf8(bytes).map_err(|_| format!("{command}: printed no text"));
-    Ok(Said { printed: text(output.stdout)?, error: text(output.stderr)? })
+    Ok(Said { printed: output.stdout, error: text(command, output.stderr)? })
 }
 
-/// The text alone; what is said over standard error is passed on.
-pub fn printed(command: &str, words: &[&[u8]], input: &[u8]) -> Result<String, String> {
+fn text(command: &str, bytes: Vec<u8>) -> Result<String, String> {
+    String::from_utf8(bytes).map_err(|_| format!("{command}: printed no text"))
+}
+
+/// The bytes alone; what is said over standard error is passed on.
+pub fn printed_bytes(command: &str, words: &[&[u8]], input: &[u8]) -> Result<Vec<u8>, String> {
     let said = ask(command, words, input)?;
     eprint!("{}", said.error);
     Ok(said.printed)
+}
+
+/// Likewise the text.
+pub fn printed(command: &str, words: &[&[u8]], input: &[u8]) -> Result<String, String> {
+    text(command, printed_bytes(command, words, input)?)
 }

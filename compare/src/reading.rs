@@ -23,7 +23,7 @@ fn set_at(bytes: &[u8], at: usize) -> Flags {
 }
 
 /// The header: its counts, and what else it says.
-struct Header {
+pub struct Header {
     counts: Counts,
     attributes: usize,
     allowed: u32,
@@ -291,14 +291,17 @@ fn prices(
     Ok(out)
 }
 
-pub fn read(bytes: &[u8]) -> Result<File, Refusal> {
+/// The trials of the header, 1 to 4, then 3 for the length.
+pub fn opened(bytes: &[u8]) -> Result<(Header, Layout), Refusal> {
     let header = header(bytes)?;
+    let layout = Layout::of(&header.counts);
+    if bytes.len() == layout.end { Ok((header, layout)) } else { refuse(3, 0) }
+}
+
+pub fn read(bytes: &[u8]) -> Result<File, Refusal> {
+    let (header, layout) = opened(bytes)?;
     let counts = &header.counts;
     let subjects = counts.subjects;
-    let layout = Layout::of(counts);
-    if bytes.len() != layout.end {
-        return refuse(3, 0);
-    }
     let relations = relations(bytes, layout.relations, &header)?;
     let grants = grants(bytes, layout.grants, counts, &relations)?;
     owners_see_all(&relations, &grants)?;

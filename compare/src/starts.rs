@@ -3,6 +3,7 @@
 
 use crate::coverage::{Line, line};
 use crate::file::{LONGEST_1, LONGEST_2};
+use crate::program::{Said, ask};
 use crate::rng::Rng;
 use crate::served::serve;
 use crate::users;
@@ -10,6 +11,26 @@ use crate::valid::{self, Size};
 
 /// A file of so many nodes is of a sort of its own.
 pub const MANY_NODES: usize = 40;
+
+/// Words that are no number of 32 bits.
+pub const NO_NUMBER: [&[u8]; 16] = [
+    b"",
+    b"-1",
+    b"-0",
+    b"+1",
+    b" 1",
+    b"1 ",
+    b"1x",
+    b"x",
+    b"0x1",
+    b"1.0",
+    b"4294967296",
+    b"4294967297",
+    b"18446744073709551617",
+    b"99999999999999999999",
+    "\u{ff11}".as_bytes(),
+    b"1\xff",
+];
 
 /// Starts of a program, so many wanted of each sort: a start takes longer than
 /// all calls on most files.
@@ -44,6 +65,23 @@ pub fn same(expected: &str, printed: &str) -> Result<(), String> {
         return Ok(());
     }
     Err(format!("expected\n{expected}\nprinted\n{printed}"))
+}
+
+/// Words that bring no answer of the program but one line over standard error.
+pub fn compare_bad(
+    command: &str,
+    program: &str,
+    words: &[&[u8]],
+    file: &[u8],
+) -> Result<(), String> {
+    let Said { printed, error } = ask(command, words, file)?;
+    let one_line = error.lines().count() == 1 && error.ends_with('\n');
+    if printed.is_empty() && one_line && error.starts_with("use: ") {
+        return Ok(());
+    }
+    let words: Vec<String> = words.iter().map(|word| word.escape_ascii().to_string()).collect();
+    let printed = printed.escape_ascii();
+    Err(format!("{program} {words:?}\nprinted\n{printed}\nover standard error\n{error}"))
 }
 
 /// Compares on the longest file of each version, on longer ones, and on none.

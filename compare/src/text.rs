@@ -42,7 +42,8 @@ fn told(
     }
 }
 
-fn refused(refusal: &Refusal) -> String {
+/// The line of a refusal.
+pub fn refused(refusal: &Refusal) -> String {
     format!("refused {} place {}\n", refusal.number, refusal.place)
 }
 

@@ -3,9 +3,9 @@
 
 use crate::generate::Case;
 use crate::planner::{Study, study};
-use crate::program::{Said, ask, printed};
+use crate::program::printed;
 use crate::reading::Refusal;
-use crate::starts::{self, MANY_NODES, Starts, same};
+use crate::starts::{self, MANY_NODES, NO_NUMBER, Starts, compare_bad, same};
 use crate::text;
 use crate::why::{Question, Reason, Table, Verdict, verdicts};
 
@@ -33,26 +33,6 @@ const OF_VERSION: usize = SORTS.len() + 1;
 
 /// Words that are no question.
 const BAD: [&[&[u8]]; 4] = [&[], &[b"0"], &[b"0", b"0", b"0"], &[b"", b""]];
-/// Words that are no number, as the node or as the subject.
-const NO_NUMBER: [&[u8]; 16] = [
-    b"",
-    b"-1",
-    b"-0",
-    b"+1",
-    b" 1",
-    b"1 ",
-    b"1x",
-    b"x",
-    b"0x1",
-    b"1.0",
-    b"4294967296",
-    b"4294967297",
-    b"18446744073709551617",
-    b"99999999999999999999",
-    "\u{ff11}".as_bytes(),
-    b"1\xff",
-];
-
 pub fn starts() -> Starts {
     let many = format!("answered for {MANY_NODES} nodes or more");
     let sorts = || SORTS.into_iter().zip(WANTED).chain([(&many[..], OF_MANY)]);
@@ -119,17 +99,6 @@ pub fn compare_lengths(command: &str, seed: u64) -> Result<(), String> {
     })
 }
 
-/// Words that bring no answer but one line over standard error.
-fn compare_bad(command: &str, words: &[&[u8]], file: &[u8]) -> Result<(), String> {
-    let Said { printed, error } = ask(command, words, file)?;
-    let one_line = error.lines().count() == 1 && error.ends_with('\n');
-    if printed.is_empty() && one_line && error.starts_with("use: ") {
-        return Ok(());
-    }
-    let words: Vec<String> = words.iter().map(|word| word.escape_ascii().to_string()).collect();
-    Err(format!("why {words:?}\nprinted\n{printed}\nover standard error\n{error}"))
-}
-
 /// The same question in other words, the highest number there is, and bad words
 /// with a file and with none, for a case whose root is a step.
 pub fn compare_odd(command: &str, case: &Case) -> Result<(), String> {
@@ -144,11 +113,11 @@ pub fn compare_odd(command: &str, case: &Case) -> Result<(), String> {
     compare_words(command, [&highest, "0"], file, &asked(u32::MAX, 0))?;
     compare_words(command, [&plain, &highest], file, &asked(root as u32, u32::MAX))?;
     for words in BAD {
-        compare_bad(command, words, file)?;
+        compare_bad(command, "why", words, file)?;
     }
     for word in NO_NUMBER {
-        compare_bad(command, &[word, b"0"], file)?;
-        compare_bad(command, &[plain.as_bytes(), word], &[])?;
+        compare_bad(command, "why", &[word, b"0"], file)?;
+        compare_bad(command, "why", &[plain.as_bytes(), word], &[])?;
     }
     Ok(())
 }

@@ -1,4 +1,4 @@
-/* What the example takes from <stdio.h>: the kit's compiler comes without headers. */
+/* What the examples take from <stdio.h>: the kit's compiler comes without headers. */
 #ifndef STDIO_H
 #define STDIO_H
 

@@ -18,9 +18,12 @@ use Rattle.planning.specs.declared.CheapestPlan.{CheapestPlan}
 use Rattle.planning.specs.declared.CheapestPlan.the-variants.{Cheapest, Refused as NoCheapest}
 use Rattle.planning.specs.declared.OfferedPlan.the-variants.{Offered, Refused as NoOffered}
 use Rattle.planning.specs.declared.OfferedPlan.{OfferedPlan}
-use Rattle.tollburrow.specs.Codes.{cheapestCode, offeredCode, totalOr, stepsOr, costOr}
+use Rattle.tollburrow.specs.Codes.{codeOf, orElse, cheapestCode, offeredCode, totalOr, stepsOr, costOr}
+use Rattle.writing.specs.Answers.{writtenSaid}
+use Rattle.writing.specs.declared.Written.{Written}
+use Rattle.writing.proofs.Answered.{write-once}
 use Rattle.verdicts.specs.Refusals.{Rooms, cheapestTrials, cheapestPlanTrials, offeredPlanTrials}
-use Rattle.demands.specs.Once.{CheapestPlanOnce, OfferedPlanOnce, CheapestOutOnce, OfferedOutOnce}
+use Rattle.demands.specs.Once.{CheapestPlanOnce, OfferedPlanOnce, CheapestOutOnce, OfferedOutOnce, WriteOutOnce}
 
 -- a row of trials either passes or refuses, and with one number and place
 not-both : (ts : List Trial) (n p : ℕ) → verdict ts (tt {0}) ≡ answers tt → verdict ts (tt {0}) ≡ refuses n p → ⊥
@@ -90,4 +93,12 @@ offered-out-once s offer before x y total t code t′ code′ u v =
       same .1,
       u .its-total ∙ ap (λ (a : OfferedPlan). costOr a total) (same .0) ∙ sym (v .its-total),
       u .its-code ∙ ap offeredCode (same .0) ∙ sym (v .its-code),
+    )
+
+pub write-out-once : WriteOutOnce
+write-out-once vs before x y length l code l′ code′ p q =
+    let same = write-once vs before x y (p .said) (q .said) (p .says) (q .says) in (
+      same .1,
+      p .its-length ∙ ap (λ (r : Written). orElse (writtenSaid r) length) (same .0) ∙ sym (q .its-length),
+      p .its-code ∙ ap (λ (r : Written). codeOf (writtenSaid r)) (same .0) ∙ sym (q .its-code),
     )

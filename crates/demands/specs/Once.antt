@@ -2,7 +2,8 @@
 use Prim.Native.Nat.{ℕ}
 use mathlib.Core.Path.{_≡_}
 use mathlib.Core.List.{List}
-use Rattle.tollburrow.specs.Codes.{CheapestOut, OfferedOut}
+use Rattle.tollburrow.specs.Codes.{CheapestOut, OfferedOut, WriteOut}
+use Rattle.writes.specs.Values.{Values}
 use Rattle.planning.specs.Answers.{CheapestSays, OfferedSays}
 use Rattle.planning.specs.declared.CheapestPlan.{CheapestPlan}
 use Rattle.verdicts.specs.Refusals.{Rooms}
@@ -32,3 +33,9 @@ OfferedOutOnce =
     (s offer : List ℕ) (before x y : Rooms) (total t code t′ code′ : ℕ)
     → OfferedOut s offer before x total t code → OfferedOut s offer before y total t′ code′
     → (x ≡ y) × (t ≡ t′) × (code ≡ code′)
+
+abbrev pub WriteOutOnce : Type 0
+WriteOutOnce =
+    (vs : Values) (before x y : List ℕ) (length l code l′ code′ : ℕ)
+    → WriteOut vs before x length l code → WriteOut vs before y length l′ code′
+    → (x ≡ y) × (l ≡ l′) × (code ≡ code′)

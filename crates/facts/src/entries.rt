@@ -1,5 +1,6 @@
 // The entries that a case may ask, and what each says.
 use crate::wide;
+use encoding::LONGEST;
 use layout::values;
 use planning::CheapestPlan;
 use planning::OfferedPlan;
@@ -7,10 +8,11 @@ use planning::SubjectStanding;
 use reading::Checked;
 use show::lines;
 use show::rooms;
+use writing::Written;
 ghost use Prim.Native.Nat.{_+_, _≤_};
 ghost use lib.ListN.{length};
 
-// Asks the entry: 1 cheapest, 2 offered, 3 why, else check. `how` holds the entry and the lengths of the rooms.
+// Asks the entry: 1 cheapest, 2 offered, 3 why, 4 rewrite, else check. `how` holds the entry and the lengths of the rooms.
 pub(crate) fn ask(how: &[u8], offer: &[u8], file: &[u8]) {
     if how.len() < 4 {
         return;
@@ -23,6 +25,8 @@ pub(crate) fn ask(how: &[u8], offer: &[u8], file: &[u8]) {
         offered(file, offer, plan, keys);
     } else if how[0] == 3 {
         reason(file, offer);
+    } else if how[0] == 4 {
+        rewrite(file, offer);
     } else {
         check(file);
     }
@@ -120,6 +124,25 @@ fn reason(file: &[u8], offer: &[u8]) {
     }
 }
 
+// How many bytes are written of the file's values, and whether all else in the room stayed. The offer holds the room's length, four bytes.
+fn rewrite(file: &[u8], offer: &[u8]) {
+    if offer.len() < 4 {
+        return;
+    }
+    let mut room = [rooms::BYTE; LONGEST];
+    let lent = four(offer, 0) as usize;
+    match writing::rewrite(file, rooms::bytes_front(&mut room, lent)) {
+        Written::Bytes(n) => {
+            written(n);
+            told(rooms::bytes_kept(&room, n), true, true);
+        }
+        Written::Refused { number, place } => {
+            refused(number, place);
+            told(rooms::bytes_kept(&room, 0), true, true);
+        }
+    }
+}
+
 // The 32-bit number at `at`, big-endian.
 fn four(bytes: &[u8], at: usize) -> u32
     requires { ⌜ at + 4 ≤ length (now bytes) ⌝ }
@@ -129,7 +152,7 @@ fn four(bytes: &[u8], at: usize) -> u32
     (high * 65536 + low) as u32
 }
 
-// Whether all three rooms kept what had to stay.
+// Whether the rooms kept what had to stay, all three that an entry may have.
 fn told(choice: bool, plan: bool, keys: bool) {
     if choice && plan && keys {
         io::write_all(1, b", rooms kept");
@@ -159,6 +182,12 @@ fn costs(total: u64) {
 fn counted(steps: u32) {
     io::write_all(1, b" steps ");
     io::print_decimal(1, steps as u64);
+}
+
+fn written(n: usize) {
+    io::write_all(1, b": ");
+    io::print_decimal(1, n as u64);
+    io::write_all(1, b" bytes");
 }
 
 fn refused(number: u8, place: u32) {

@@ -1,6 +1,7 @@
 -- An array in a local, of any element type: its first k elements are lent as a `&[T]` for a lifetime, and the local's cell is there again once the lifetime is over. With k the array's length it is the whole array.
 --     lends-front   the cell ∗ what the array owns  ⊢ ⇛ ∃ γ. own (the `&κ [T]` on take k xs) [the struct of the address and k] ∗ Kept κ
 --     front-back    [†κ] ∗ Kept κ  ⊢ ⇛ the cell, with the same value
+--     lies, lay     the cell ∗ what the array owns are the elements side by side, and back
 -- Assumes `Given`, and a relation by which the element's machine values are told (a plain struct's laws have it).
 use mathlib.Core.Path.{_≡_, refl, sym, subst}
 use Prim.Native.Nat.{ℕ, _≤_}
@@ -15,7 +16,7 @@ use base.Logic.{SProp, ent, sep, ex}
 use base.Fml.{Lft, GName, Fml, fsep, fdead, flent, fat}
 use prog.Wp.{Heap}
 use ghost.Atoms.{Atoms, sem}
-use types.Kit.{Given, ‵, _⊛_, some, later, _$_, !, qed, by, move, drop, use1, use2, split, pick, rewrite, fsplit, fjoin, fpick, fpack, feqI, await, updating, now as at-once, show, done}
+use types.Kit.{Given, ‵, _⊛_, some, later, _$_, !, qed, move, drop, use1, use2, split, pick, rewrite, fsplit, fjoin, fpick, fpack, feqI, await, updating, now as at-once, show, done}
 use types.Tokens.{lent-back}
 use types.SemTy.{cells}
 use types.Share.{arr-parts}
@@ -81,19 +82,21 @@ module _ {M : Type 1} (𝓤 : URA M) (H : Heap 𝓤) (A : Atoms 𝓤) (W : Given
     abbrev pub Cell : Val → Fml
     Cell v = fat fullShare (arrayTy R n) l 0 v
 
-    lies : (v : Val) → ent 𝓤 (⟦ Cell v ⟧ ∗ ⟦ Array R n .own xs (v ∷ []) ⟧) ⟦ elems R xs l 0 ⟧
+    pub lies : (v : Val) → ent 𝓤 (⟦ Cell v ⟧ ∗ ⟦ Array R n .own xs (v ∷ []) ⟧) ⟦ elems R xs l 0 ⟧
     unfolding partOf
     lies v =
         qed W (‵ (Cell v) ∷ ‵ (Array R n .own xs (v ∷ [])) ∷ []) {P = ⟦ elems R xs l 0 ⟧} (use1 W (‵ (cellAt fullShare (arrayTy R n ∷ []) (v ∷ []) l 0)) (W .laws .at-raw fullShare (arrayTy R n) l 0 v) $ fjoin ! $
         fpack ! (List Val) (λ vs. fsep (cellAt fullShare (arrayTy R n ∷ []) vs l 0) (Array R n .own xs vs)) (v ∷ []) $
         use1 W (‵ (arr-parts (shares R) n .part fullShare xs l 0)) (array-apart 𝓤 H A W R fullShare one n xs l 0) $ rewrite ! 0 (λ (m : ℕ). ‵ (arr-parts (shares R) m .part fullShare xs l 0)) (sym len) refl $ done !)
 
-    lay : (vals : R .Denot → List Val) → Tells R (Is R) vals → ent 𝓤 ⟦ elems R xs l 0 ⟧ ⟦ Cell (only (array-vals vals xs)) ⟧
+    pub lay : (vals : R .Denot → List Val) → Tells R (Is R) vals → ent 𝓤 ⟦ elems R xs l 0 ⟧ (⟦ Cell (only (array-vals vals xs)) ⟧ ∗ ⟦ Array R n .own xs (array-vals vals xs) ⟧)
     unfolding partOf
     lay vals tells =
-        qed W (‵ (elems R xs l 0) ∷ []) {P = ⟦ Cell (only (array-vals vals xs)) ⟧} (rewrite ! 0 (λ (m : ℕ). ‵ (arr-parts (shares R) m .part fullShare xs l 0)) len refl $ use1 W (‵ (partAt (Array R n) fullShare xs l 0)) (array-whole 𝓤 H A W R fullShare n xs l 0) $ fpick ! (λ vs. fsplit ! $ move ! (1 ∷ []) $
-        peeks ! (Array R n) (Is (Array R n)) (shows 𝓤 H A (Array R n)) xs vs (λ is. drop ! $ rewrite ! 0 (λ (ws : List Val). ‵ (cellAt fullShare (arrayTy R n ∷ []) ws l 0)) (array-tells R vals tells n xs vs is) refl $
-        by ! (W .laws .raw-at fullShare (arrayTy R n) l 0 (only (array-vals vals xs))))))
+        qed W (‵ (elems R xs l 0) ∷ []) {P = ⟦ Cell (only (array-vals vals xs)) ⟧ ∗ ⟦ Array R n .own xs (array-vals vals xs) ⟧} (rewrite ! 0 (λ (m : ℕ). ‵ (arr-parts (shares R) m .part fullShare xs l 0)) len refl $
+        use1 W (‵ (partAt (Array R n) fullShare xs l 0)) (array-whole 𝓤 H A W R fullShare n xs l 0) $ fpick ! (λ vs. fsplit ! $ move ! (1 ∷ []) $
+        peeks ! (Array R n) (Is (Array R n)) (shows 𝓤 H A (Array R n)) xs vs (λ is. rewrite ! 0 (λ (ws : List Val). ‵ (Array R n .own xs ws)) (array-tells R vals tells n xs vs is) refl $ move ! (1 ∷ []) $
+        rewrite ! 0 (λ (ws : List Val). ‵ (cellAt fullShare (arrayTy R n ∷ []) ws l 0)) (array-tells R vals tells n xs vs is) refl $
+        use1 W (‵ (Cell (only (array-vals vals xs)))) (W .laws .raw-at fullShare (arrayTy R n) l 0 (only (array-vals vals xs))) $ done !)))
 
     module _ (k : ℕ) (κ : Lft) where
       abbrev pub Fronted : Lifetime → GName → SProp 𝓤
@@ -110,4 +113,4 @@ module _ {M : Type 1} (𝓤 : URA M) (H : Heap 𝓤) (A : Atoms 𝓤) (W : Given
       pub front-back : (vals : R .Denot → List Val) → Tells R (Is R) vals → ent 𝓤 (A .dead κ ∗ ⟦ Kept R xs k l κ ⟧) (H .⇛ ⟦ Cell (only (array-vals vals xs)) ⟧)
       front-back vals tells =
           qed W (‵ (fdead κ) ∷ ‵ (Kept R xs k l κ) ∷ []) {P = H .⇛ ⟦ Cell (only (array-vals vals xs)) ⟧} (updating ! $ move ! (1 ∷ []) $ fsplit ! $ move ! (2 ∷ 0 ∷ []) $ lent-back ! tt $
-          use2 W (‵ (elems R xs l 0)) (joins xs k l) $ use1 W (‵ (Cell (only (array-vals vals xs)))) (lay vals tells) $ at-once ! $ done !)
+          use2 W (‵ (elems R xs l 0)) (joins xs k l) $ use1 W (‵ (Cell (only (array-vals vals xs))) ⊛ ‵ (Array R n .own xs (array-vals vals xs))) (lay vals tells) $ split ! $ move ! (1 ∷ []) $ drop ! $ at-once ! $ done !)

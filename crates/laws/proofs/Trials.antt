@@ -188,3 +188,11 @@ pub all-rows : (Q : ℕ → ℕ → Type 0) (f : ℕ → List Trial) (n : ℕ) �
 unfolding rows
 all-rows Q f zero h = tt
 all-rows Q f (suc n) h = all-append Q (rows n f) (f n) (all-rows Q f n (λ i l. h i (omega arith))) (h n (omega arith))
+
+-- rows that say the same, one after the other
+pub append-alike : (xs ys zs ws : List Trial) → verdict xs (tt {0}) ≡ verdict ys tt → verdict zs (tt {0}) ≡ verdict ws tt → verdict (xs ++ zs) (tt {0}) ≡ verdict (ys ++ ws) tt
+append-alike xs ys zs ws first second = go (verdict xs tt) refl
+  where
+    go : (r : Says (Unit {0})) → verdict xs tt ≡ r → verdict (xs ++ zs) (tt {0}) ≡ verdict (ys ++ ws) tt
+    go (answers tt) e = passed-then xs zs tt tt e ∙ second ∙ sym (passed-then ys ws tt tt (sym first ∙ e))
+    go (refuses n p) e = refused-then xs zs tt tt n p e ∙ sym (refused-then ys ws tt tt n p (sym first ∙ e))

@@ -10,7 +10,7 @@ use native.Mathlib.Numerals.{add-one}
 use native.Mathlib.Omega.{arith}
 use native.Mathlib.Decide.{le-ind}
 use lib.ListN.{length, getD, set, length-append, replicate, List·getD-append, List·getD-eq-default}
-use lib.Seq.{getD-at, getD-set-same, getD-set-other}
+use lib.Seq.{getD-at, getD-set-same, getD-set-other, ext-getD}
 use Rattle.laws.specs.Upwards.{upwards, each}
 
 module _ {A : Type 0} (f : List A → ℕ → A) where
@@ -86,3 +86,15 @@ upwards-same f g (suc n) h = rw (upwards-same f g n (λ before i l. h before i (
 
 pub each-same : {A : Type 0} (f g : ℕ → A) (n : ℕ) → ((i : ℕ) → i < n → f i ≡ g i) → each n f ≡ each n g
 each-same f g n h = upwards-same (λ before i. f i) (λ before i. g i) n (λ before i l. h i l)
+
+-- a list by its own entries
+pub each-self : {A : Type 0} (xs : List A) (d : A) → each (length xs) (λ k. getD xs k d) ≡ xs
+each-self xs d = ext-getD d (each (length xs) (λ k. getD xs k d)) xs (each-length (λ k. getD xs k d) (length xs)) (λ i l. each-at (λ k. getD xs k d) d i (length xs) (rw (each-length (λ k. getD xs k d) (length xs)) at l))
+
+-- what holds of each entry, and of what stands past the last, holds of all
+pub each-holds : {A : Type 0} (P : A → Type 0) (f : ℕ → A) (d : A) (n : ℕ) → P d → ((k : ℕ) → k < n → P (f k)) → (k : ℕ) → P (getD (each n f) k d)
+each-holds P f d n past all k = go (ltb k n) refl
+  where
+    go : (b : Bool) → ltb k n ≡ b → P (getD (each n f) k d)
+    go true e = rw (each-at f d k n (ltb-true k n e)) (all k (ltb-true k n e))
+    go false e = rw (each-past f d k n (ltb-false k n e)) past

@@ -3,5 +3,6 @@ pub mod Choose
 pub mod First
 pub mod Trials
 pub mod Upwards
+pub mod InOrder
 pub mod BigEndian
 pub mod Sums

@@ -1,4 +1,5 @@
 -- The laws of the layout.
 pub mod Sections
-mod Read
+pub mod Read
+pub mod Written
 mod Thin

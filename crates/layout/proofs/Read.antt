@@ -66,27 +66,27 @@ pub node-made : {u v w : ℕ} (s : List ℕ) (at : ℕ)
 unfolding nodeAt
 node-made s at set needed size = λ i. nodeWith s at (set i) (needed i) (size i)
 
--- a record read out of p, a copy of the 28 bytes of s from `at` on
-module _ (s : List ℕ) (at : ℕ) (p : List ℕ) (copied : (k : ℕ) → k < 28 → getD p k 0 ≡ getD s (at + k) 0) where
-  first : getD p 0 0 ≡ getD s at 0
-  first = rw (add-zero at) at (copied 0 (omega arith))
+-- a record read out of p, a copy of w bytes of s from `at` on, as many as it has or more
+module _ (w : ℕ) (s : List ℕ) (at : ℕ) (p : List ℕ) (copied : (k : ℕ) → k < w → getD p k 0 ≡ getD s (at + k) 0) where
+  first : 0 < w → getD p 0 0 ≡ getD s at 0
+  first l = rw (add-zero at) at (copied 0 l)
 
-  number : (i n : ℕ) → i + n ≤ 28 → be p i n ≡ be s (at + i) n
+  number : (i n : ℕ) → i + n ≤ w → be p i n ≡ be s (at + i) n
   number = be-copied s at p copied
 
-  pub relation-copied : relationAt p 0 ≡ relationAt s at
+  pub relation-copied : 9 ≤ w → relationAt p 0 ≡ relationAt s at
   unfolding relationAt
-  relation-copied = cc (first, number 1 8 (omega arith))
+  relation-copied l = cc (first (omega arith), number 1 8 (omega arith))
 
-  pub grant-copied : grantAt p 0 ≡ grantAt s at
+  pub grant-copied : 18 ≤ w → grantAt p 0 ≡ grantAt s at
   unfolding grantAt
-  grant-copied = cc (first, copied 1 (omega arith), number 2 8 (omega arith), number 10 8 (omega arith))
+  grant-copied l = cc (first (omega arith), copied 1 (omega arith), number 2 8 (omega arith), number 10 8 (omega arith))
 
-  pub node-copied : nodeAt p 0 ≡ nodeAt s at
+  pub node-copied : 28 ≤ w → nodeAt p 0 ≡ nodeAt s at
   unfolding nodeAt
-  node-copied =
+  node-copied l =
       cc (
-        first,
+        first (omega arith),
         copied 1 (omega arith),
         copied 2 (omega arith),
         copied 3 (omega arith),

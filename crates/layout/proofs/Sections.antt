@@ -21,7 +21,7 @@ pub product-lt : (a b : ℕ) → a < 256 → b < 256 → a * b < 65536
 product-lt a b h k = omega (arith, mul-le-mul {n₁ = a} {m₁ = b} {n₂ = 255} {m₂ = 255} (omega arith) (omega arith))
 
 -- a row and a column have a number below the count
-cell-lt : (rows columns i p : ℕ) → i < rows → p < columns → i * columns + p < rows * columns
+pub cell-lt : (rows columns i p : ℕ) → i < rows → p < columns → i * columns + p < rows * columns
 cell-lt rows columns i p l k = omega (arith, suc-mul i columns, mul-le-mul {n₁ = suc i} {m₁ = columns} {n₂ = rows} {m₂ = columns} l (omega arith))
 
 -- a table of prices: at a row and a column, past the rows, past the columns

@@ -1,8 +1,9 @@
--- Where each record of the file stands, and the values that are read there. All numbers big-endian; a byte past the end counts as 0.
+-- Where each record of the file stands, the values that are read there, and beside each the bytes that are written for them. All numbers big-endian; a byte
+-- past the end counts as 0.
 use Prim.Native.Nat.{ℕ, _+_, _*_}
-use mathlib.Core.List.{List}
+use mathlib.Core.List.{List, [], _∷_, _++_}
 use lib.ListN.{getD}
-use Rattle.laws.specs.BigEndian.{be}
+use Rattle.laws.specs.BigEndian.{be, bytes}
 use Rattle.laws.specs.Choose.{if_then_else_}
 use Rattle.laws.specs.Upwards.{each}
 use Rattle.night.specs.declared.Header.{Header}
@@ -42,13 +43,43 @@ headerOf s =
       user = if delivers (be s 3 2) then getD s 15 0 else 0;
     }
 
+-- its bytes: the mark `AXP`, and the values in this order; a user only in a version that has one
+unfoldable pub headerBytes : Header → List ℕ
+headerBytes h =
+    65 ∷ 88 ∷ 80
+    ∷ (bytes 2 (h .version)
+    ++ (h .subjects ∷ h .relations ∷ h .attributes ∷ h .nodes
+    ∷ (bytes 2 (h .grants)
+    ++ (bytes 4 (h .steps)
+    ++ (if delivers (h .version) then h .user ∷ [] else [])))))
+
+-- the header as these bytes are read: a field that the version doesn't have means nothing, and is read at its fixed value
+unfoldable pub asRead : Header → Header
+asRead h =
+    record {
+      version = h .version;
+      subjects = h .subjects;
+      relations = h .relations;
+      attributes = h .attributes;
+      nodes = h .nodes;
+      grants = h .grants;
+      steps = h .steps;
+      user = if delivers (h .version) then h .user else 0;
+    }
+
 -- a relation: owner, set
 unfoldable pub relationAt : List ℕ → ℕ → Relation
 relationAt s at = record { owner = getD s at 0; set = be s (at + 1) 8 }
 
+unfoldable pub relationBytes : Relation → List ℕ
+relationBytes v = v .owner ∷ bytes 8 (v .set)
+
 -- a grant: relation, subject, set in clear, set sealed
 unfoldable pub grantAt : List ℕ → ℕ → Grant
 grantAt s at = record { relation = getD s at 0; subject = getD s (at + 1) 0; clear = be s (at + 2) 8; sealed = be s (at + 10) 8 }
+
+unfoldable pub grantBytes : Grant → List ℕ
+grantBytes v = v .relation ∷ v .subject ∷ (bytes 8 (v .clear) ++ bytes 8 (v .sealed))
 
 -- a node: kind, left, right, x, y, three spare bytes, set, needed in clear, size
 unfoldable pub nodeAt : List ℕ → ℕ → Node
@@ -66,6 +97,13 @@ nodeAt s at =
       needed = be s (at + 16) 8;
       size = be s (at + 24) 4;
     }
+
+-- its fields of one byte, which stand first, and all of it
+abbrev pub nodeStart : Node → List ℕ
+nodeStart v = v .kind ∷ v .left ∷ v .right ∷ v .x ∷ v .y ∷ v .spare1 ∷ v .spare2 ∷ v .spare3 ∷ []
+
+unfoldable pub nodeBytes : Node → List ℕ
+nodeBytes v = nodeStart v ++ (bytes 8 (v .set) ++ (bytes 8 (v .needed) ++ bytes 4 (v .size)))
 
 -- a table of prices: rows of so many 32-bit prices each
 unfoldable pub pricesAt : List ℕ → ℕ → ℕ → ℕ → List (List ℕ)

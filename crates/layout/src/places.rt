@@ -27,17 +27,24 @@ pub fn step_prices_from(h: Header) -> usize
 }
 
 // How many step prices there are.
-pub(crate) fn step_prices(h: Header) -> usize
+pub fn step_prices(h: Header) -> usize
     ensures { λ r. ⌜ (r ≡ h .nodes * h .subjects) × (r < 65_536) ⌝ }
 {
     product(h.nodes, h.subjects)
+}
+
+// How many link prices there are.
+pub fn link_prices(h: Header) -> usize
+    ensures { λ r. ⌜ (r ≡ h .subjects * h .subjects) × (r < 65_536) ⌝ }
+{
+    product(h.subjects, h.subjects)
 }
 
 // How many prices there are.
 pub(crate) fn prices(h: Header) -> usize
     ensures { λ r. ⌜ (r ≡ h .nodes * h .subjects + h .subjects * h .subjects) × (r < 131_072) ⌝ }
 {
-    step_prices(h) + product(h.subjects, h.subjects)
+    step_prices(h) + link_prices(h)
 }
 
 // Where the link prices start.
@@ -51,7 +58,7 @@ pub fn link_prices_from(h: Header) -> usize
 pub fn file_length(h: Header) -> usize
     ensures { λ r. ⌜ r ≡ fileLength h ⌝ }
 {
-    link_prices_from(h) + 4 * product(h.subjects, h.subjects)
+    link_prices_from(h) + 4 * link_prices(h)
 }
 
 // The product of two counts.

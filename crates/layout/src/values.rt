@@ -64,7 +64,7 @@ pub fn node(file: &[u8], h: Header, i: usize) -> Node
 }
 
 // Price i of all, step prices first, where the header is h.
-fn price(file: &[u8], h: Header, i: usize) -> u32
+pub fn price(file: &[u8], h: Header, i: usize) -> u32
     ensures { λ r. ⌜ r ≡ nthPrice (now (file .entry)) h i ⌝ }
 {
     opened::price_of(opened::view_of(file, h), i)

@@ -3,6 +3,7 @@
 pub mod versions;
 
 // The header's values. In a version without a user, `user` is 0 and nothing looks at it.
+#[repr(C)]
 pub struct Header {
     pub version: u16,
     pub subjects: u8,
@@ -15,12 +16,14 @@ pub struct Header {
 }
 
 // A relation: its owner and its attributes.
+#[repr(C)]
 pub struct Relation {
     pub owner: u8,
     pub set: u64,
 }
 
 // A grant on a relation to a subject, or to any (255): the attributes in clear, and those sealed.
+#[repr(C)]
 pub struct Grant {
     pub relation: u8,
     pub subject: u8,
@@ -29,6 +32,7 @@ pub struct Grant {
 }
 
 // A node of the query, with its three spare bytes.
+#[repr(C)]
 pub struct Node {
     pub kind: u8,
     pub left: u8,

@@ -10,7 +10,9 @@ use layout::values;
 use night::Header;
 ghost use mathlib.Core.Path.{_≡_};
 ghost use Rattle.reading.specs.Answers.{saidOf, refusedBy, grantsPart, numberOf, placeOf, GrantsTold};
-ghost use Rattle.trials.specs.Trials.{checkOf};
+ghost use Rattle.laws.specs.Trials.{verdict};
+ghost use Rattle.layout.specs.Layout.{headerOf};
+ghost use Rattle.trials.specs.Trials.{headerTrials, checkOf};
 
 // What is said of a file: the header's values where it is accepted, or the first refusal.
 pub enum Checked {
@@ -45,6 +47,17 @@ pub fn check(file: &[u8]) -> Checked
         return refused(body);
     };
     Checked::Accepted(h)
+}
+
+// The verdict on a file's header and its length alone: 1 to 4, and 3 again. Whatever the records say, a file that passes has as many as its counts say.
+pub fn check_header(file: &[u8]) -> Checked
+    ensures { λ r. ⌜ saidOf r ≡ verdict (headerTrials (now (file .entry))) (headerOf (now (file .entry))) ⌝ }
+{
+    let head = header::header_tried(file);
+    let Tried::Passed = head else {
+        return refused(head);
+    };
+    Checked::Accepted(values::header(file))
 }
 
 // The trial that failed, as the refusal. (A row that passed is never handed in.)

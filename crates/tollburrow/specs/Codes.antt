@@ -15,6 +15,10 @@ use Rattle.planning.specs.declared.OfferedPlan.the-variants.{Offered, Refused a
 use Rattle.trials.specs.Trials.{checkOf}
 use Rattle.verdicts.specs.Refusals.{Rooms}
 use Rattle.planning.specs.Answers.{candidatesOf, whyOf, CheapestSays, OfferedSays}
+use Rattle.writes.specs.Values.{Values}
+use Rattle.writes.specs.Writing.{writeOf}
+use Rattle.writing.specs.declared.Written.{Written}
+use Rattle.writing.specs.Answers.{writtenSaid, WriteSays}
 
 -- a refusal as one number
 abbrev pub refusalCode : ℕ → ℕ → ℕ
@@ -114,6 +118,13 @@ pub record OfferedOut (s offer : List ℕ) (before after : Rooms) (total total�
   pub its-code : code ≡ offeredCode said
   pub its-total : total′ ≡ costOr said total
 
+-- what `write` says, as numbers: how many bytes the file has, or what stood there
+pub record WriteOut (vs : Values) (before after : List ℕ) (length length′ code : ℕ) : Type 0 where
+  pub said : Written
+  pub says : WriteSays vs before after said
+  pub its-code : code ≡ codeOf (writtenSaid said)
+  pub its-length : length′ ≡ orElse (writtenSaid said) length
+
 -- a refusal's code isn't 0, and number and place can be had back from it
 pub record Told (code number place : ℕ) : Type 0 where
   pub some : code ≡ 0 → ⊥
@@ -128,3 +139,4 @@ pub record CodesTold : Type 0 where
   pub cheapest : (s : List ℕ) (before after : Rooms) (n p : ℕ) → CheapestSays s before after (NoCheapest n p) → Told (cheapestCode (NoCheapest n p)) n p
   pub offered : (s offer : List ℕ) (before after : Rooms) (n p : ℕ) → OfferedSays s offer before after (NoOffered n p)
       → Told (offeredCode (NoOffered n p)) n p
+  pub write : (vs : Values) (room n p : ℕ) → writeOf vs room ≡ refuses n p → Told (codeOf (writeOf vs room)) n p

@@ -1,10 +1,15 @@
 // The planner for programs in C and Rust: every function says 0, or the refusal as its number times 2^32 and its place. A refusal writes nothing anywhere.
 use layout::places;
+use night::Grant;
+use night::Header;
+use night::Node;
+use night::Relation;
 use planning::CandidateSet;
 use planning::CheapestPlan;
 use planning::OfferedPlan;
 use planning::SubjectStanding;
 use reading::Checked;
+use writing::Written;
 ghost use mathlib.Core.Path.{_≡_};
 ghost use mathlib.Core.List.{[]};
 ghost use Prim.Native.Nat.{_+_, _*_};
@@ -12,7 +17,9 @@ ghost use Rattle.reading.specs.Answers.{saidOf};
 ghost use Rattle.trials.specs.Trials.{checkOf};
 ghost use Rattle.planning.specs.Answers.{candidatesSaid, candidatesOf, whyOf};
 ghost use Rattle.verdicts.specs.Refusals.{Rooms};
-ghost use Rattle.tollburrow.specs.Codes.{codeOf, cheapestCode, offeredCode, GrantsOut, CandidatesOut, StandingOut, CheapestOut, OfferedOut};
+ghost use Rattle.writing.specs.Answers.{writtenSaid};
+ghost use Rattle.tollburrow.specs.Codes.{codeOf, orElse, cheapestCode, offeredCode, GrantsOut, CandidatesOut, StandingOut};
+ghost use Rattle.tollburrow.specs.Codes.{CheapestOut, OfferedOut, WriteOut};
 
 // A refusal as one number.
 fn code(number: u8, place: u32) -> u64
@@ -178,4 +185,45 @@ pub extern "C" fn tollburrow_offered(
     };
     *total = cost;
     0
+}
+
+// What the writer answers, as a number; how many bytes were written goes where it is asked for.
+fn write_code(answer: Written, written: &mut u64) -> u64
+    ensures { λ r. ⌜ (r ≡ codeOf (writtenSaid answer)) × (now (written .exit) ≡ orElse (writtenSaid answer) (now (written .entry))) ⌝ }
+{
+    match answer {
+        Written::Bytes(n) => {
+            *written = n as u64;
+            0
+        }
+        Written::Refused { number, place } => code(number, place),
+    }
+}
+
+// The file of these values, written into the room.
+#[no_mangle]
+pub extern "C" fn tollburrow_write<'h, 'a, 'p, 'r, 'w>(
+    header: &'h Header,
+    relations: &'a [Relation],
+    grants: &'a [Grant],
+    nodes: &'a [Node],
+    steps: &'p [u32],
+    links: &'p [u32],
+    room: &'r mut [u8],
+    written: &'w mut u64,
+) -> u64
+    ensures { λ code. ⌜ WriteOut
+        (record {
+          header = now (header .entry);
+          relations = now (relations .entry);
+          grants = now (grants .entry);
+          nodes = now (nodes .entry);
+          stepPrices = now (steps .entry);
+          linkPrices = now (links .entry);
+        })
+        (now (room .entry)) (now (room .exit)) (now (written .entry)) (now (written .exit)) code ⌝ }
+{
+    let h = *header;
+    let answer = writing::write(h, relations, grants, nodes, steps, links, room);
+    write_code(answer, written)
 }

@@ -26,7 +26,7 @@ pub record Few (h : Header) : Type 0 where
   pub nodes : h .nodes ≤ 64
   pub grants : h .grants ≤ 272
 
-few : (h : Header) → countsBad h ≡ false → Few h
+pub few : (h : Header) → countsBad h ≡ false → Few h
 unfolding countsBad
 few h e =
     let q = none-of _ e in
@@ -41,10 +41,10 @@ few h e =
 abbrev pub Reads : ℕ → ℕ → Type 0
 Reads n p = (1 ≤ n) × (n < 12) × (p < 10000)
 
-fits : {n p : ℕ} → 1 ≤ n → n < 256 → p < 10000 → Fits n p
+pub fits : {n p : ℕ} → 1 ≤ n → n < 256 → p < 10000 → Fits n p
 fits some low small = (some, low, omega arith)
 
-reads-fits : (n p : ℕ) → Reads n p → Fits n p
+pub reads-fits : (n p : ℕ) → Reads n p → Fits n p
 reads-fits n p q = fits (q .0) (omega (arith, q .1)) (q .2)
 
 module _ (N : Night) (counts : Few (N .header)) where
@@ -83,7 +83,7 @@ module _ (N : Night) (counts : Few (N .header)) where
   unfolding treeTrials
   tree-reads = all-append Reads (section N Nodes) (section N Parents ++ section N Prices) (section-reads Nodes) (both Parents Prices)
 
-  body-reads : AllTrials Reads (recordTrials N ++ treeTrials N)
+  pub body-reads : AllTrials Reads (recordTrials N ++ treeTrials N)
   body-reads = all-append Reads (recordTrials N) (treeTrials N) records-read tree-reads
 
   user-fits : AllTrials Fits (userTrials N)

@@ -8,8 +8,8 @@ use Rattle.layout.proofs.places.file_length.Tie as tie
 link-prices-from-requires : tie.Need-link-prices-from-requires
 link-prices-from-requires c κs = search needs
 
-product-requires : tie.Need-product-requires
-product-requires c κs = search needs
+link-prices-requires : tie.Need-link-prices-requires
+link-prices-requires c κs = search needs
 
 mul-result : tie.Need-mul-result
 mul-result c = search needs
@@ -23,4 +23,4 @@ returns c = omega arith
 
 pub file-length-spec : {M : Type 1} → statement M
 file-length-spec =
-    tie.close (tie.spec link-prices-from-requires product-requires mul-result add-result returns)
+    tie.close (tie.spec link-prices-from-requires link-prices-requires mul-result add-result returns)

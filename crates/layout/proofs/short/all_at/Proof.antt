@@ -1,4 +1,5 @@
 -- Each record of the copied bytes is that of the file.
+use native.Mathlib.Omega.{arith}
 use borrow.Author.Needs.{needs}
 use mathlib.Core.Path.{_∙_}
 use denote.Ref.{now}
@@ -25,9 +26,9 @@ returns : tie.Need-returns
 returns c =
     let b = c .before .before .before .before in
     let a = b .before .before .args in (
-      c .before .before .relation-in .ensures ∙ relation-copied (now (a .file)) (a .at) (b .padded .result) (b .padded .ensures),
-      c .before .grant-in .ensures ∙ grant-copied (now (a .file)) (a .at) (b .padded .result) (b .padded .ensures),
-      c .node-in .ensures ∙ node-copied (now (a .file)) (a .at) (b .padded .result) (b .padded .ensures),
+      c .before .before .relation-in .ensures ∙ relation-copied 28 (now (a .file)) (a .at) (b .padded .result) (b .padded .ensures) (omega arith),
+      c .before .grant-in .ensures ∙ grant-copied 28 (now (a .file)) (a .at) (b .padded .result) (b .padded .ensures) (omega arith),
+      c .node-in .ensures ∙ node-copied 28 (now (a .file)) (a .at) (b .padded .result) (b .padded .ensures) (omega arith),
     )
 
 pub all-at-spec : {M : Type 1} → statement M

@@ -1,0 +1,190 @@
+//! The values of a plan file as they stand, right or wrong, laid out as C has
+//! them: taken out of a file's bytes, and put into bytes again.
+
+use crate::file::{Counts, Layout, header_of};
+use crate::reading::{self, Refusal};
+
+#[repr(C)]
+#[derive(Clone, Copy, PartialEq, Debug)]
+pub struct Header {
+    pub version: u16,
+    pub subjects: u8,
+    pub relations: u8,
+    pub attributes: u8,
+    pub nodes: u8,
+    pub grants: u16,
+    pub steps: u32,
+    pub user: u8,
+}
+
+#[repr(C)]
+#[derive(Clone, Copy, Default, PartialEq, Debug)]
+pub struct Relation {
+    pub owner: u8,
+    pub set: u64,
+}
+
+#[repr(C)]
+#[derive(Clone, Copy, Default, PartialEq, Debug)]
+pub struct Grant {
+    pub relation: u8,
+    pub subject: u8,
+    pub clear: u64,
+    pub sealed: u64,
+}
+
+#[repr(C)]
+#[derive(Clone, Copy, Default, PartialEq, Debug)]
+pub struct Node {
+    pub kind: u8,
+    pub left: u8,
+    pub right: u8,
+    pub x: u8,
+    pub y: u8,
+    pub spare: [u8; 3],
+    pub set: u64,
+    pub needed: u64,
+    pub size: u32,
+}
+
+#[derive(Clone, PartialEq, Debug)]
+pub struct Values {
+    pub header: Header,
+    pub relations: Vec<Relation>,
+    pub grants: Vec<Grant>,
+    pub nodes: Vec<Node>,
+    pub step_prices: Vec<u32>,
+    pub link_prices: Vec<u32>,
+}
+
+/// The lists that a header counts, in the file's order.
+pub const LISTS: [&str; 5] = ["relations", "grants", "nodes", "step prices", "link prices"];
+
+/// What is not yet taken of a file.
+struct Rest<'a>(&'a [u8]);
+
+impl Rest<'_> {
+    fn next<const N: usize>(&mut self) -> [u8; N] {
+        let (first, rest) = self.0.split_first_chunk().expect("the length is right");
+        self.0 = rest;
+        *first
+    }
+
+    fn byte(&mut self) -> u8 {
+        self.next::<1>()[0]
+    }
+
+    fn word(&mut self) -> u32 {
+        u32::from_be_bytes(self.next())
+    }
+
+    fn set(&mut self) -> u64 {
+        u64::from_be_bytes(self.next())
+    }
+
+    fn header(&mut self) -> Header {
+        let version = u16::from_be_bytes(self.next());
+        let [subjects, relations, attributes, nodes] = self.next();
+        let grants = u16::from_be_bytes(self.next());
+        let steps = self.word();
+        let user = if version == 2 { self.byte() } else { 0 };
+        Header { version, subjects, relations, attributes, nodes, grants, steps, user }
+    }
+
+    fn relation(&mut self) -> Relation {
+        Relation { owner: self.byte(), set: self.set() }
+    }
+
+    fn grant(&mut self) -> Grant {
+        let [relation, subject] = self.next();
+        Grant { relation, subject, clear: self.set(), sealed: self.set() }
+    }
+
+    fn node(&mut self) -> Node {
+        let [kind, left, right, x, y, spare @ ..] = self.next::<8>();
+        let (set, needed, size) = (self.set(), self.set(), self.word());
+        Node { kind, left, right, x, y, spare, set, needed, size }
+    }
+
+    fn list<T>(&mut self, count: usize, item: fn(&mut Self) -> T) -> Vec<T> {
+        (0..count).map(|_| item(self)).collect()
+    }
+}
+
+impl Header {
+    /// How many of each list it asks for.
+    pub fn asks(&self) -> [usize; 5] {
+        let [subjects, relations, nodes] =
+            [self.subjects, self.relations, self.nodes].map(usize::from);
+        [relations, self.grants.into(), nodes, nodes * subjects, subjects * subjects]
+    }
+
+    /// How long the file is by its counts; one of a version that there is not is
+    /// taken for version 1.
+    pub fn file_length(&self) -> usize {
+        let counts = Counts {
+            header: header_of(self.version.into()).or(header_of(1)).expect("there is version 1"),
+            subjects: self.subjects.into(),
+            relations: self.relations.into(),
+            grants: self.grants.into(),
+            nodes: self.nodes.into(),
+        };
+        Layout::of(&counts).end
+    }
+}
+
+impl Values {
+    /// The values of a file whose header and length are right, whatever else.
+    pub fn of(file: &[u8]) -> Result<Values, Refusal> {
+        reading::opened(file)?;
+        let mut rest = Rest(&file[3..]);
+        let header = rest.header();
+        let [relations, grants, nodes, steps, links] = header.asks();
+        Ok(Values {
+            header,
+            relations: rest.list(relations, Rest::relation),
+            grants: rest.list(grants, Rest::grant),
+            nodes: rest.list(nodes, Rest::node),
+            step_prices: rest.list(steps, Rest::word),
+            link_prices: rest.list(links, Rest::word),
+        })
+    }
+
+    /// How many there are of each list.
+    pub fn lengths(&self) -> [usize; 5] {
+        let Values { relations, grants, nodes, step_prices, link_prices, .. } = self;
+        [relations.len(), grants.len(), nodes.len(), step_prices.len(), link_prices.len()]
+    }
+
+    /// The bytes of the values, all that the lists hold.
+    pub fn encode(&self) -> Vec<u8> {
+        let Header { version, subjects, relations, attributes, nodes, grants, steps, user } =
+            self.header;
+        let mut out = b"AXP".to_vec();
+        out.extend(version.to_be_bytes());
+        out.extend([subjects, relations, attributes, nodes]);
+        out.extend(grants.to_be_bytes());
+        out.extend(steps.to_be_bytes());
+        if version == 2 {
+            out.push(user);
+        }
+        for Relation { owner, set } in &self.relations {
+            out.push(*owner);
+            out.extend(set.to_be_bytes());
+        }
+        for Grant { relation, subject, clear, sealed } in &self.grants {
+            out.extend([*relation, *subject]);
+            out.extend(clear.to_be_bytes());
+            out.extend(sealed.to_be_bytes());
+        }
+        for node in &self.nodes {
+            out.extend([node.kind, node.left, node.right, node.x, node.y]);
+            out.extend(node.spare);
+            out.extend(node.set.to_be_bytes());
+            out.extend(node.needed.to_be_bytes());
+            out.extend(node.size.to_be_bytes());
+        }
+        out.extend(self.step_prices.iter().chain(&self.link_prices).flat_map(|p| p.to_be_bytes()));
+        out
+    }
+}

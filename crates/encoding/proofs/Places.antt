@@ -1,0 +1,52 @@
+-- Where the sections stand in a file whose counts are within their limits: each right behind the one before it, and all of them within the longest file.
+use Prim.Native.Nat.{ℕ, _+_, _*_, _≤_}
+use mathlib.Core.Path.{_≡_, refl}
+use mathlib.Core.Bool.{false}
+use native.Mathlib.Nat.{mul-le-mul}
+use native.Mathlib.Omega.{arith}
+use borrow.Author.Tests.{ltb-false}
+use Rattle.laws.proofs.Cases.{none-of}
+use Rattle.night.specs.declared.Header.{Header}
+use Rattle.night.specs.Versions.{headerLength}
+use Rattle.rules.specs.Rules.{countsBad}
+use Rattle.layout.proofs.Written.{header-most}
+use Rattle.layout.specs.Layout.{grantsFrom, nodesFrom, stepPricesFrom, linkPricesFrom, fileLength}
+use Rattle.encoding.specs.Encoded.{mostRelations, mostGrants, mostNodes, longest}
+
+pub record Places (h : Header) : Type 0 where
+  pub relations-few : h .relations ≤ mostRelations
+  pub grants-few : h .grants ≤ mostGrants
+  pub nodes-few : h .nodes ≤ mostNodes
+  pub steps-few : h .nodes * h .subjects ≤ 1024
+  pub links-few : h .subjects * h .subjects ≤ 256
+  pub grants-at : grantsFrom h ≡ headerLength (h .version) + 9 * h .relations
+  pub nodes-at : nodesFrom h ≡ grantsFrom h + 18 * h .grants
+  pub steps-at : stepPricesFrom h ≡ nodesFrom h + 28 * h .nodes
+  pub links-at : linkPricesFrom h ≡ stepPricesFrom h + 4 * (h .nodes * h .subjects)
+  pub end-at : fileLength h ≡ linkPricesFrom h + 4 * (h .subjects * h .subjects)
+  pub short : fileLength h ≤ longest
+
+pub places-of : (h : Header) → countsBad h ≡ false → Places h
+unfolding countsBad grantsFrom nodesFrom stepPricesFrom linkPricesFrom fileLength
+places-of h fine =
+    let t = none-of _ fine in
+    let subjects : h .subjects ≤ 16 = ltb-false 16 (h .subjects) (t .1 .0) in
+    let relations : h .relations ≤ 16 = ltb-false 16 (h .relations) (t .1 .1 .1 .0) in
+    let nodes : h .nodes ≤ 64 = ltb-false 64 (h .nodes) (t .1 .1 .1 .1 .1 .1 .1 .0) in
+    let grants : h .grants ≤ 272 = ltb-false 272 (h .grants) (t .1 .1 .1 .1 .1 .1 .1 .1 .0) in
+    let steps : h .nodes * h .subjects ≤ 1024 = mul-le-mul {n₁ = h .nodes} {m₁ = h .subjects} {n₂ = 64} {m₂ = 16} nodes subjects in
+    let links : h .subjects * h .subjects ≤ 256 = mul-le-mul {n₁ = h .subjects} {m₁ = h .subjects} {n₂ = 16} {m₂ = 16} subjects subjects in
+    let start = header-most (h .version) in
+    record {
+      relations-few = relations;
+      grants-few = grants;
+      nodes-few = nodes;
+      steps-few = steps;
+      links-few = links;
+      grants-at = refl;
+      nodes-at = refl;
+      steps-at = refl;
+      links-at = refl;
+      end-at = refl;
+      short = omega arith;
+    }

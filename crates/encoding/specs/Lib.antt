@@ -1,0 +1,3 @@
+-- What encoding is handed, and what it makes of it.
+pub mod Stored
+pub mod Encoded

@@ -1,0 +1,144 @@
+// The bytes of a plan file from its values, which are handed in as arrays with how many records there are.
+mod numbers;
+mod records;
+mod sections;
+
+use layout::places;
+use night::Grant;
+use night::Header;
+use night::Node;
+use night::Relation;
+use night::versions;
+use rules::records as records_of;
+ghost use mathlib.Core.Path.{_≡_};
+ghost use mathlib.Core.Bool.{false};
+ghost use Prim.Native.Nat.{_+_, _*_, _≤_};
+ghost use lib.ListN.{length};
+ghost use Rattle.writes.specs.Values.{Values, fileBytes};
+ghost use Rattle.encoding.specs.Stored.{Stored};
+ghost use Rattle.rules.specs.Rules.{countsBad};
+ghost use Rattle.writes.specs.Writing.{miscountedBy};
+ghost use Rattle.writes.specs.Back.{ValuesFit};
+ghost use Rattle.encoding.specs.Encoded.{Handed, EncodedSays, heldIn, countedAs, longest};
+
+// The most records of each kind that a file may have, and the length of the longest file.
+pub const MOST_RELATIONS: usize = 16;
+
+pub const MOST_GRANTS: usize = 272;
+
+pub const MOST_NODES: usize = 64;
+
+pub const LONGEST: usize = 11_968;
+
+// Whether the values are as many as the counts say, or the first of 2, 4 and 3 that refuses them; the place is 0.
+pub enum Counted {
+    Right,
+    Refused { number: u8 },
+}
+
+// That answer, and beside it the file's bytes with zeros behind them, or zeros alone.
+pub struct Encoded {
+    pub answer: Counted,
+    pub file: [u8; LONGEST],
+}
+
+// The file of these values.
+pub fn encode(
+    h: Header,
+    relations: [Relation; MOST_RELATIONS],
+    r: usize,
+    grants: [Grant; MOST_GRANTS],
+    g: usize,
+    nodes: [Node; MOST_NODES],
+    n: usize,
+    steps: &[u32],
+    links: &[u32],
+) -> Encoded
+    ensures { λ made. ⌜ ((vs : Values)
+        → Handed vs h relations r grants g nodes n (now (steps .entry)) (now (links .entry))
+        → EncodedSays vs (made .answer) (made .file)) ⌝ }
+{
+    let mut file = [0u8; LONGEST];
+    let answer = tried(h, r, g, n, steps.len(), links.len());
+    let Counted::Right = answer else {
+        return Encoded { answer, file };
+    };
+    put_all(&mut file, h, relations, grants, nodes, steps, links);
+    Encoded {
+        answer: Counted::Right,
+        file,
+    }
+}
+
+// 3: whether there are not as many records and prices as the counts say.
+fn miscounted(
+    h: Header,
+    relations: usize,
+    grants: usize,
+    nodes: usize,
+    steps: usize,
+    links: usize,
+) -> bool
+    ensures { λ r. ⌜ r ≡ miscountedBy h relations grants nodes steps links ⌝ }
+{
+    if relations != h.relations as usize {
+        return true;
+    }
+    if grants != h.grants as usize {
+        return true;
+    }
+    if nodes != h.nodes as usize {
+        return true;
+    }
+    if steps != places::step_prices(h) {
+        return true;
+    }
+    links != places::link_prices(h)
+}
+
+// The first of 2, 4 and 3 that refuses.
+fn tried(
+    h: Header,
+    relations: usize,
+    grants: usize,
+    nodes: usize,
+    steps: usize,
+    links: usize,
+) -> Counted
+    ensures { λ r. ⌜ r ≡ countedAs h relations grants nodes steps links ⌝ }
+{
+    if !versions::known(h.version) {
+        return Counted::Refused { number: 2 };
+    }
+    if records_of::counts_bad(h) {
+        return Counted::Refused { number: 4 };
+    }
+    if miscounted(h, relations, grants, nodes, steps, links) {
+        return Counted::Refused { number: 3 };
+    }
+    Counted::Right
+}
+
+// Every section of the file, where it stands.
+fn put_all(
+    room: &mut [u8],
+    h: Header,
+    relations: [Relation; MOST_RELATIONS],
+    grants: [Grant; MOST_GRANTS],
+    nodes: [Node; MOST_NODES],
+    steps: &[u32],
+    links: &[u32],
+)
+    requires { ⌜ (countsBad h ≡ false) × (length (now room) ≡ longest)
+        × (length (now steps) ≡ h .nodes * h .subjects) × (length (now links) ≡ h .subjects * h .subjects) ⌝ }
+    ensures { λ _. ⌜ Stored (now (room .entry)) (now (room .exit)) 0 (fileBytes (heldIn h relations grants nodes (now (steps .entry)) (now (links .entry))))
+        × ValuesFit (heldIn h relations grants nodes (now (steps .entry)) (now (links .entry))) ⌝ }
+{
+    records::put_header(room, h);
+    let from = versions::header_length(h.version);
+    sections::put_relations(room, from, relations, h.relations as usize);
+    sections::put_grants(room, places::grants_from(h), grants, h.grants as usize);
+    sections::put_nodes(room, places::nodes_from(h), nodes, h.nodes as usize);
+    sections::put_prices(room, places::step_prices_from(h), steps);
+    sections::put_prices(room, places::link_prices_from(h), links);
+}

@@ -1,0 +1,130 @@
+-- The table of verdicts, row by row, by computation.
+use mathlib.Core.Path.{refl}
+use Rattle.laws.specs.BigEndian.{be, bytes}
+use Rattle.laws.specs.Choose.{anyOf}
+use Rattle.laws.specs.First.{first, somewhere}
+use Rattle.laws.specs.InOrder.{inOrder}
+use Rattle.laws.specs.Trials.{verdict, rows}
+use Rattle.laws.specs.Upwards.{upwards}
+use Rattle.sets.specs.Sets.{bit, member, union, meet, minus, within, apart, below, single, unions}
+use Rattle.night.specs.Versions.{known, delivers, headerLength}
+use Rattle.night.specs.Night.{relationOf, grantOf, nodeOf, stepPrice, linkPrice}
+use Rattle.night.specs.Kinds.{usesLeft, usesRight, usesX, usesY, usesSet, reads, readTogether, visibleAfter, visibleStep, visibles, isChild, taken}
+use Rattle.night.specs.Views.{isFor, grantFor, viewOf}
+use Rattle.rules.specs.Rules.{userBad, countsBad, relationBad, leftOver, subjectThere, grantBad, ownerBad, childBad, leftBad, rightBad, unusedBad, shapeBad, leafBad, xBad, yBad, setBad, placeBad, stepBad, half, neededBad, mostForStep, mostForLink}
+use Rattle.layout.specs.Layout.{grantsFrom, nodesFrom, stepPricesFrom, linkPricesFrom, fileLength, headerOf, headerBytes, asRead, relationAt, relationBytes, grantAt, grantBytes, nodeAt, nodeBytes, pricesAt, nightIn}
+use Rattle.trials.specs.Trials.{notMarked, notVersioned, headerTrials, takenBefore, pairSeen, isLeafOf, leafBefore, attributesBad, priceIn, mostIn, countIn, trialsOf, section, recordTrials, treeTrials}
+use Rattle.trials.specs.Small.{small}
+use Rattle.writes.specs.Values.{rowsOf, nightFrom, fileBytes, valuesOf}
+use Rattle.writes.specs.Writing.{miscounted, miscountedBy, countTrials, roomTrials, writeTrials, writeOf, rewriteOf}
+use Rattle.writes.specs.Small.{smallValues}
+use Rattle.writes.specs.Verdicts.{WriteVerdicts}
+
+pub write-verdicts : WriteVerdicts
+unfolding be bytes anyOf first somewhere inOrder verdict rows upwards bit member union meet minus within apart below single unions known delivers headerLength relationOf grantOf nodeOf stepPrice linkPrice usesLeft usesRight usesX usesY usesSet reads readTogether visibleAfter visibleStep visibles isChild taken isFor grantFor viewOf userBad countsBad relationBad leftOver subjectThere grantBad ownerBad childBad leftBad rightBad unusedBad shapeBad leafBad xBad yBad setBad placeBad stepBad half neededBad mostForStep mostForLink grantsFrom nodesFrom stepPricesFrom linkPricesFrom fileLength headerOf headerBytes asRead relationAt relationBytes grantAt grantBytes nodeAt nodeBytes pricesAt nightIn notMarked notVersioned headerTrials takenBefore pairSeen isLeafOf leafBefore attributesBad priceIn mostIn countIn trialsOf section recordTrials treeTrials small rowsOf nightFrom fileBytes valuesOf miscounted miscountedBy countTrials roomTrials writeTrials writeOf rewriteOf smallValues
+write-verdicts =
+    record {
+      values-stand = refl;
+      values-user = refl;
+      values-prices = refl;
+      values-own = refl;
+      night-same = refl;
+      night-steps = refl;
+      night-links = refl;
+      night-steps-own = refl;
+      night-links-own = refl;
+      rows-and-columns = refl;
+      read-one = refl;
+      read-two = refl;
+      night-user = refl;
+      two-bytes = refl;
+      two-low = refl;
+      four-bytes = refl;
+      header-bytes = refl;
+      header-bytes-one = refl;
+      header-bytes-two = refl;
+      relation-bytes = refl;
+      relation-low = refl;
+      grant-bytes = refl;
+      node-bytes = refl;
+      file-bytes = refl;
+      file-prices = refl;
+      file-own = refl;
+      file-user = refl;
+      file-unused = refl;
+      written = refl;
+      written-more = refl;
+      written-user = refl;
+      written-unused = refl;
+      version-none = refl;
+      version-other = refl;
+      version-high = refl;
+      version-high-one = refl;
+      version-before-counts = refl;
+      subjects-none = refl;
+      relations-many = refl;
+      nodes-many = refl;
+      grants-many = refl;
+      user-missing = refl;
+      counts-before-lists = refl;
+      relations-fewer = refl;
+      relations-more = refl;
+      grants-fewer = refl;
+      grants-more = refl;
+      nodes-fewer = refl;
+      nodes-more = refl;
+      steps-fewer = refl;
+      steps-more = refl;
+      links-fewer = refl;
+      links-more = refl;
+      prices-moved = refl;
+      relations-for-grant = refl;
+      lists-own = refl;
+      lists-before-relations = refl;
+      lists-before-prices = refl;
+      owner-missing = refl;
+      left-over = refl;
+      grant-relation = refl;
+      pair-seen = refl;
+      owner-blind = refl;
+      owners-before-nodes = refl;
+      kind-unknown = refl;
+      spare-filled = refl;
+      parent-none = refl;
+      leaf-relation = refl;
+      needed-unread = refl;
+      leaf-price = refl;
+      step-price = refl;
+      link-price = refl;
+      link-itself = refl;
+      room-short = refl;
+      room-none = refl;
+      room-user-short = refl;
+      version-before-room = refl;
+      counts-before-room = refl;
+      lists-before-room = refl;
+      relations-before-room = refl;
+      owners-before-room = refl;
+      prices-before-room = refl;
+      room-after = refl;
+      room-after-just = refl;
+      room-after-user = refl;
+      room-kept = refl;
+      room-kept-version = refl;
+      room-kept-price = refl;
+      again = refl;
+      again-more = refl;
+      again-user = refl;
+      again-mark = refl;
+      again-version = refl;
+      again-header = refl;
+      again-counts = refl;
+      again-fewer = refl;
+      again-more-bytes = refl;
+      again-mark-before-room = refl;
+      again-mark-before-grants = refl;
+      again-length-before-grants = refl;
+      again-grant = refl;
+      again-grant-before-room = refl;
+      again-room = refl;
+    }

@@ -1,0 +1,105 @@
+-- The values of the small file, written by hand from its records, and how neighbours are made of them.
+use Prim.Native.Nat.{ℕ}
+use mathlib.Core.List.{List, [], _∷_, _++_}
+use lib.ListN.{take, replicate}
+use Rattle.night.specs.declared.Header.{Header}
+use Rattle.night.specs.declared.Relation.{Relation}
+use Rattle.night.specs.declared.Grant.{Grant}
+use Rattle.night.specs.declared.Node.{Node}
+use Rattle.night.specs.Night.{noRelation, noGrant, noNode}
+use Rattle.trials.specs.Small.{small, twoPrices}
+use Rattle.writes.specs.Values.{Values, withHeader}
+
+-- a header: version, subjects, relations, attributes, nodes, grants, steps allowed, user
+abbrev pub aHeader : ℕ → ℕ → ℕ → ℕ → ℕ → ℕ → ℕ → ℕ → Header
+aHeader version subjects relations attributes nodes grants steps user =
+    record {
+      version = version;
+      subjects = subjects;
+      relations = relations;
+      attributes = attributes;
+      nodes = nodes;
+      grants = grants;
+      steps = steps;
+      user = user;
+    }
+
+-- a relation: owner, set
+abbrev pub aRelation : ℕ → ℕ → Relation
+aRelation owner set = record { owner = owner; set = set }
+
+-- a grant: relation, subject, set in clear, set sealed
+abbrev pub aGrant : ℕ → ℕ → ℕ → ℕ → Grant
+aGrant relation subject clear sealed = record { relation = relation; subject = subject; clear = clear; sealed = sealed }
+
+-- a node of size 1, its spare bytes 0: kind, left, right, x, y, set, needed in clear
+abbrev pub aNode : ℕ → ℕ → ℕ → ℕ → ℕ → ℕ → ℕ → Node
+aNode kind left right x y set needed =
+    record {
+      kind = kind;
+      left = left;
+      right = right;
+      x = x;
+      y = y;
+      spare1 = 0;
+      spare2 = 0;
+      spare3 = 0;
+      set = set;
+      needed = needed;
+      size = 1;
+    }
+
+-- the small file's
+unfoldable pub smallValues : Values
+smallValues =
+    record {
+      header = aHeader 1 2 2 2 4 4 6 0;
+      relations = aRelation 0 1 ∷ aRelation 1 2 ∷ [];
+      grants = aGrant 0 0 1 0 ∷ aGrant 1 1 2 0 ∷ aGrant 0 255 0 1 ∷ aGrant 1 255 0 2 ∷ [];
+      nodes = aNode 0 255 255 0 255 1 0 ∷ aNode 0 255 255 1 255 2 0 ∷ aNode 4 0 1 255 255 0 0 ∷ aNode 2 2 255 0 255 0 1 ∷ [];
+      stepPrices = 0 ∷ 0 ∷ 0 ∷ 0 ∷ 1 ∷ 1 ∷ 1 ∷ 1 ∷ [];
+      linkPrices = 0 ∷ 1 ∷ 1 ∷ 0 ∷ [];
+    }
+
+-- the same values with another list
+abbrev pub withRelations : List Relation → Values → Values
+withRelations rs vs =
+    record { header = vs .header; relations = rs; grants = vs .grants; nodes = vs .nodes; stepPrices = vs .stepPrices; linkPrices = vs .linkPrices }
+
+abbrev pub withGrants : List Grant → Values → Values
+withGrants gs vs =
+    record { header = vs .header; relations = vs .relations; grants = gs; nodes = vs .nodes; stepPrices = vs .stepPrices; linkPrices = vs .linkPrices }
+
+abbrev pub withNodes : List Node → Values → Values
+withNodes ns vs =
+    record { header = vs .header; relations = vs .relations; grants = vs .grants; nodes = ns; stepPrices = vs .stepPrices; linkPrices = vs .linkPrices }
+
+abbrev pub withSteps : List ℕ → Values → Values
+withSteps ps vs =
+    record { header = vs .header; relations = vs .relations; grants = vs .grants; nodes = vs .nodes; stepPrices = ps; linkPrices = vs .linkPrices }
+
+abbrev pub withLinks : List ℕ → Values → Values
+withLinks ps vs =
+    record { header = vs .header; relations = vs .relations; grants = vs .grants; nodes = vs .nodes; stepPrices = vs .stepPrices; linkPrices = ps }
+
+-- the small file with the prices 1 to 12, and its values
+abbrev pub pricedFile : List ℕ
+pricedFile = take 217 small ++ (twoPrices 1 2 ++ twoPrices 3 4 ++ twoPrices 5 6 ++ twoPrices 7 8 ++ twoPrices 9 10 ++ twoPrices 11 12)
+
+abbrev pub pricedValues : Values
+pricedValues = withSteps (1 ∷ 2 ∷ 3 ∷ 4 ∷ 5 ∷ 6 ∷ 7 ∷ 8 ∷ []) (withLinks (9 ∷ 10 ∷ 11 ∷ 12 ∷ []) smallValues)
+
+-- a header whose counts all differ: of 3 subjects, 2 relations, 7 attributes, 5 nodes and 4 grants there are 15 step prices and 9 link prices; here zeros only
+abbrev pub unlikeFile : List ℕ
+unlikeFile = 65 ∷ 88 ∷ 80 ∷ 0 ∷ 1 ∷ 3 ∷ 2 ∷ 7 ∷ 5 ∷ 0 ∷ 4 ∷ 0 ∷ 0 ∷ 0 ∷ 6 ∷ replicate 326 0
+
+abbrev pub unlikeValues : Values
+unlikeValues =
+    record {
+      header = aHeader 1 3 2 7 5 4 6 0;
+      relations = replicate 2 noRelation;
+      grants = replicate 4 noGrant;
+      nodes = replicate 5 noNode;
+      stepPrices = replicate 15 0;
+      linkPrices = replicate 9 0;
+    }

@@ -1,0 +1,3 @@
+-- What the writer answers.
+pub mod Answers
+pub mod Prices
