@@ -116,7 +116,8 @@ module _ (vs : Values) (fits : ValuesFit vs) (fine : miscounted vs ≡ false) wh
 
   judged-as : (room : ℕ) → writeOf vs room ≡ judgedBy (checkOf s) (fileLength (vs .header)) room
   unfolding writeOf checkOf writeTrials
-  judged-as room = rw (sym (append-assoc (countTrials vs) body (roomTrials vs room))) (go (verdict (countTrials vs ++ body) tt) refl)
+  judged-as room =
+      ap (λ (ts : List Trial). verdict ts (fileLength (vs .header))) (sym (append-assoc (countTrials vs) body (roomTrials vs room))) ∙ go (verdict (countTrials vs ++ body) tt) refl
     where
       go : (r : Says (Unit {0})) → verdict (countTrials vs ++ body) tt ≡ r → verdict ((countTrials vs ++ body) ++ roomTrials vs room) (fileLength (vs .header)) ≡ judgedBy (verdict (trials s) (headerOf s)) (fileLength (vs .header)) room
       go (answers tt) e =
