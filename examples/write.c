@@ -34,21 +34,21 @@ static const struct tollburrow_grant grants[] = {
     {INS, ANY, 0, P_},
 };
 
-/* kind, left, right, x, y, three spare bytes, set, needed in clear, size */
+/* kind, left, right, x, y, three spare bytes, set, needed in clear, size, and no pairs */
 static const struct tollburrow_node nodes[] = {
-    {LEAF, NONE, NONE, HOSP, NONE, 0, 0, 0, S_ | D_ | T_, 0, 4},
-    {SELECT, 0, NONE, D, NONE, 0, 0, 0, 0, 0, 2},
-    {LEAF, NONE, NONE, INS, NONE, 0, 0, 0, C_ | P_, 0, 4},
-    {JOIN, 1, 2, S, C, 0, 0, 0, 0, 0, 3},
-    {AGGREGATE, 3, NONE, P, NONE, 0, 0, 0, T_, 0, 1},
-    {SELECT, 4, NONE, P, NONE, 0, 0, 0, 0, P_, 1},
+    {LEAF, NONE, NONE, HOSP, NONE, 0, 0, 0, S_ | D_ | T_, 0, 4, 0, 0},
+    {SELECT, 0, NONE, D, NONE, 0, 0, 0, 0, 0, 2, 0, 0},
+    {LEAF, NONE, NONE, INS, NONE, 0, 0, 0, C_ | P_, 0, 4, 0, 0},
+    {JOIN, 1, 2, S, C, 0, 0, 0, 0, 0, 3, 0, 0},
+    {AGGREGATE, 3, NONE, P, NONE, 0, 0, 0, T_, 0, 1, 0, 0},
+    {SELECT, 4, NONE, P, NONE, 0, 0, 0, 0, P_, 1, 0, 0},
 };
 
 static const uint32_t price_of_step[SUBJECTS] = {3, 3, 10, 1, 2, 1};
 static uint32_t step_prices[COUNT(nodes) * SUBJECTS], link_prices[SUBJECTS * SUBJECTS];
 
 /* room for the longest file */
-static uint8_t file[11968];
+static uint8_t file[12607];
 static uint8_t choice[64];
 static uint64_t plan[128], keys[128];
 
@@ -70,12 +70,12 @@ static int refused(uint64_t code) {
 }
 
 int main(void) {
-  /* version 1, which has no user; 76 steps allowed */
-  const struct tollburrow_header header = {1, SUBJECTS, COUNT(relations), ATTRIBUTES, COUNT(nodes), COUNT(grants), 76, 0};
+  /* version 1, which has neither user nor pairs; 76 steps allowed */
+  const struct tollburrow_header header = {1, SUBJECTS, COUNT(relations), ATTRIBUTES, COUNT(nodes), COUNT(grants), 76, 0, 0};
   uint64_t length = 0;
   fill_prices();
-  uint64_t code = tollburrow_write(&header, relations, COUNT(relations), grants, COUNT(grants), nodes, COUNT(nodes), step_prices, COUNT(step_prices),
-                                   link_prices, COUNT(link_prices), file, sizeof file, &length);
+  uint64_t code = tollburrow_write(&header, relations, COUNT(relations), grants, COUNT(grants), nodes, COUNT(nodes), 0, 0, step_prices,
+                                   COUNT(step_prices), link_prices, COUNT(link_prices), file, sizeof file, &length);
   if (code) {
     return refused(code);
   }

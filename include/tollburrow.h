@@ -4,12 +4,12 @@
  * writes nothing anywhere.
  *
  * Of its caller a function asks this much of the pointers:
- * - A file, an offer, records, prices or a room that are passed with a length have that many elements there. With a length of 0 any pointer will do, a null
+ * - A file, an offer, records, pairs, prices or a room that are passed with a length have that many elements there. With a length of 0 any pointer will do, a null
  *   pointer too.
  * - A pointer to a single number (from, length, set, table, condition, total, steps, written) or to a header points to one.
  * - A pointer to records, prices, a header or numbers is aligned as the compiler aligns them.
  * - What a function writes to overlaps nothing else that it is passed: no two rooms or numbers share a byte, nor does one of them share a byte with the
- *   file, the offer, the header, records or prices. With plan and keys in one room, say, the answer is 0 and the keys have overwritten the plan. */
+ *   file, the offer, the header, records, pairs or prices. With plan and keys in one room, say, the answer is 0 and the keys have overwritten the plan. */
 #ifndef TOLLBURROW_H
 #define TOLLBURROW_H
 
@@ -42,7 +42,7 @@ uint64_t tollburrow_why(const uint8_t *file, uint64_t file_length, uint32_t node
 
 /* The cheapest choice and its plan. Of the file's n nodes and a attributes it writes: into choice the subject of each node, n bytes; into plan
  * for each node the set that it opens and the set that it seals, 2n numbers; into keys for each attribute the name of its key, or 64, and the set of
- * that key's holders, or 0, 2a numbers; the total; the steps. What lies beyond in each room stays. A file of version 2 names a user, who takes what the
+ * that key's holders, or 0, 2a numbers; the total; the steps. What lies beyond in each room stays. From version 2 on a file names a user, who takes what the
  * root hands over and opens whatever is sealed: it is one of the holders of those keys, and nothing else shows it. Refusals 1 to 11, 17, 12, 13, 15;
  * 17 is a leaf that holds in clear what the user doesn't see so, the place its node; no file with a user is refused with 12. */
 uint64_t tollburrow_cheapest(const uint8_t *file, uint64_t file_length, uint8_t *choice, uint64_t choice_length, uint64_t *plan, uint64_t plan_length,
@@ -52,13 +52,14 @@ uint64_t tollburrow_cheapest(const uint8_t *file, uint64_t file_length, uint8_t 
 uint64_t tollburrow_offered(const uint8_t *file, uint64_t file_length, const uint8_t *offer, uint64_t offer_length, uint64_t *plan, uint64_t plan_length,
                             uint64_t *keys, uint64_t keys_length, uint64_t *total);
 
-/* The values of a plan file, every field as it stands there. In version 1 the user means nothing: it is not written, and read back as 0. */
+/* The values of a plan file, every field as it stands there. A field that the version doesn't have means nothing: it is not written, and read back as 0.
+ * These are the user in version 1, and in versions 1 and 2 the number of pairs and a node's first and count. */
 struct tollburrow_header {
   uint16_t version;
   uint8_t subjects, relations, attributes, nodes;
   uint16_t grants;
   uint32_t steps;
-  uint8_t user;
+  uint8_t user, pairs;
 };
 
 struct tollburrow_relation {
@@ -72,20 +73,23 @@ struct tollburrow_grant {
   uint64_t clear, sealed;
 };
 
+/* kind 9 joins on pairs: count of them, from number first on; in other kinds both are 0 */
 struct tollburrow_node {
   uint8_t kind, left, right, x, y, spare1, spare2, spare3;
   uint64_t set, needed;
   uint32_t size;
+  uint8_t first, count;
 };
 
-/* Writes the file of these values into the room, and how many bytes it has: the records in the file's order, the prices row after row. What lies behind
- * the file in the room stays. Refusals: 2 an unknown version; 4; 3 where relations, grants, nodes, step prices or link prices are not as many as the counts
- * say; 5 to 11 as reading would refuse the file, number and place; then 15, place 4, for a room that is shorter than the file. What was written is a file
- * that tollburrow_check accepts, with the same values in it. */
+/* Writes the file of these values into the room, and how many bytes it has: the records in the file's order, the pairs as their bytes, two for each, the
+ * left operand's attribute first, the prices row after row. What lies behind the file in the room stays. Refusals: 2 an unknown version; 4; 3 where
+ * relations, grants, nodes, bytes of pairs, step prices or link prices are not as many as the counts say (in versions 1 and 2 there are no pairs); 5 to
+ * 11 as reading would refuse the file, number and place; then 15, place 4, for a room that is shorter than the file. What was written is a file that
+ * tollburrow_check accepts, with the same values in it. */
 uint64_t tollburrow_write(const struct tollburrow_header *header, const struct tollburrow_relation *relations, uint64_t relations_length,
                           const struct tollburrow_grant *grants, uint64_t grants_length, const struct tollburrow_node *nodes, uint64_t nodes_length,
-                          const uint32_t *step_prices, uint64_t step_prices_length, const uint32_t *link_prices, uint64_t link_prices_length,
-                          uint8_t *room, uint64_t room_length, uint64_t *written);
+                          const uint8_t *pairs, uint64_t pairs_length, const uint32_t *step_prices, uint64_t step_prices_length,
+                          const uint32_t *link_prices, uint64_t link_prices_length, uint8_t *room, uint64_t room_length, uint64_t *written);
 
 #ifdef __cplusplus
 }

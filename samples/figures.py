@@ -1,12 +1,12 @@
 #!/usr/bin/env python3
 """Writes the figures that the program facts runs: its input, and what document 01, or the ticket that adds to it, says of each.
 
-Each figure is the sample night, cut or filled with zeros to a length, with some bytes changed; or the same of a night with all kinds of node; or a
-leaf alone; or a file of the greatest length. What stands beside it is read off document 01 by hand, never computed. Run from the repository's root.
+Each figure is the sample night, cut or filled with zeros to a length, with some bytes changed; or the same of a night with all kinds of node, or of
+the houses, joined on pairs; or a leaf alone; or a file of the greatest length. What stands beside it is read off document 01 by hand, never computed. Run from the repository's root.
 """
 import struct
 
-from night import all_kinds, alone, longest, parted, reasons, sample, with_user
+from night import all_kinds, alone, houses, longest, parted, reasons, sample, with_pairs, with_user
 
 # name, length, bytes changed, what document 01 says
 FIGURES = [
@@ -17,9 +17,11 @@ FIGURES = [
     ("1 two bytes", 2, {}, "refused 1 place 0"),
     ("1 no bytes", 0, {}, "refused 1 place 0"),
     ("2 version 0", 741, {4: 0}, "refused 2 place 0"),
-    ("2 version 3", 741, {4: 3}, "refused 2 place 0"),
+    ("2 version 4", 741, {4: 4}, "refused 2 place 0"),
     ("2 version 257", 741, {3: 1}, "refused 2 place 0"),
     ("2 version 258", 741, {3: 1, 4: 2}, "refused 2 place 0"),
+    ("2 version 259", 741, {3: 1, 4: 3}, "refused 2 place 0"),
+    ("3 version 3, whose nodes are longer", 741, {4: 3}, "refused 3 place 0"),
     ("2 four bytes", 4, {}, "refused 2 place 0"),
     ("3 fourteen bytes", 14, {}, "refused 3 place 0"),
     ("3 fourteen bytes and no subject", 14, {5: 0}, "refused 3 place 0"),
@@ -176,12 +178,6 @@ WITH_USER = [
 ]
 
 
-# the entries, by the number that a case has
-CHECK, CHEAPEST, OFFERED, WHY, REWRITE = range(5)
-WIDE = (64, 128, 128)
-EXACT = (6, 12, 12)
-
-
 def changed(data, length, edits):
     file = bytearray(data[:length].ljust(length, b"\0"))
     for at, value in edits.items():
@@ -190,10 +186,91 @@ def changed(data, length, edits):
     return bytes(file)
 
 
+# a join of every pair of the file, and one pair more than a node may name; the longest file of version 3, with pairs that no node names
+EIGHT = houses(pairs=((0, 3), (1, 4)) * 4)
+NINE = houses(pairs=((0, 3),) * 9)
+LONGEST_OF_3 = with_pairs(longest(), 15, {}, ((255, 64),) * 255)
+# where the join of the houses stands, and the pairs
+AT, PAIRS = 275, 365
+
+
+def join(**fields):
+    """Changes to the join, by the name of a field; to the attributes of the pairs, as p0 to p3."""
+    places = {"kind": 0, "x": 3, "y": 4, "set": 15, "needed": 23, "first": 28, "count": 29, "p0": 90, "p1": 91, "p2": 92, "p3": 93}
+    return {AT + places[field]: value for field, value in fields.items()}
+
+
+# version 3, with pairs: name, changes to the houses, what document 01 and ticket 2026-05 say
+HOUSES = [
+    ("harvest and climate by house and cycle, 569 bytes", {}, "accepted"),
+    ("neither pair needed", join(needed=0), "accepted"),
+    ("both pairs needed", join(needed=0b011011), "accepted"),
+    ("the first pair alone", join(count=1), "accepted"),
+    ("the second pair alone, the first then means nothing", join(first=1, count=1, needed=0, p0=255, p1=0), "accepted"),
+    ("a pair twice", join(p2=0, p3=3), "accepted"),
+    ("two pairs that share the house, all three needed", join(p2=0, needed=0b011001), "accepted"),
+    ("3 a pair less than counted", {16: 3}, "refused 3 place 0"),
+    ("3 a pair more than counted", {16: 1}, "refused 3 place 0"),
+    ("4 user 5 of 5", {15: 5}, "refused 4 place 0"),
+    ("5 owner 5 of 5 in version 3", {17: 5}, "refused 5 place 0"),
+    ("8 kind 10", join(kind=10), "refused 8 place 2"),
+    ("8 no pair named", join(count=0), "refused 8 place 2"),
+    ("8 the last pair past the list", join(first=1), "refused 8 place 2"),
+    ("8 the first pair past the list", join(first=2, count=1), "refused 8 place 2"),
+    ("8 first and count past a byte", join(first=255, count=2), "refused 8 place 2"),
+    ("8 x of a join on pairs", join(x=0), "refused 8 place 2"),
+    ("8 y of a join on pairs", join(y=3), "refused 8 place 2"),
+    ("8 set of a join on pairs", join(set=1), "refused 8 place 2"),
+    ("8 a leaf's first pair", {215 + 28: 1}, "refused 8 place 0"),
+    ("8 a leaf's number of pairs", {215 + 29: 1}, "refused 8 place 0"),
+    ("8 a select's number of pairs", {305 + 29: 1}, "refused 8 place 3"),
+    ("9 left's and right's exchanged", join(p0=3, p1=0), "refused 9 place 2"),
+    ("9 left's attribute visible on the right alone", join(p2=4), "refused 9 place 2"),
+    ("9 right's attribute visible on the left alone", join(p3=1), "refused 9 place 2"),
+    ("9 attribute 6 of 6 in a pair", join(p1=6), "refused 9 place 2"),
+    ("9 attribute 64 in a pair", join(p0=64), "refused 9 place 2"),
+    ("9 attribute 255 in a pair", join(p3=255), "refused 9 place 2"),
+    ("10 half a pair, left's", join(needed=0b000001), "refused 10 place 2"),
+    ("10 half a pair, right's", join(needed=0b010000), "refused 10 place 2"),
+    ("10 a whole pair and half of the other", join(needed=0b001011), "refused 10 place 2"),
+    ("10 half of each", join(needed=0b010001), "refused 10 place 2"),
+    ("10 needed outside the pairs", join(needed=0b001101), "refused 10 place 2"),
+    ("10 needed of a pair that is not named", join(count=1, needed=0b010010), "refused 10 place 2"),
+    ("10 two pairs that share the house, one of them needed", join(p2=0), "refused 10 place 2"),
+    ("8 before 9 of a join on pairs", join(count=0, p0=9), "refused 8 place 2"),
+    ("9 before 10 of a join on pairs", join(p0=3, needed=1), "refused 9 place 2"),
+]
+WITH_PAIRS = [
+    ("eight pairs", EIGHT, "accepted"),
+    ("8 nine pairs", NINE, "refused 8 place 2"),
+    ("8 kind 9 in version 2", with_user(changed(sample(), 741, {369: 9, 372: 255, 373: 255}), 2), "refused 8 place 3"),
+    ("the sample night in version 3, no pairs", with_pairs(sample(), 2, {}, ()), "accepted"),
+    ("the sample night in version 3, pairs that no node names", with_pairs(sample(), 2, {}, ((0, 4), (99, 200))), "accepted"),
+    ("2 sixteen bytes of version 259", b"AXP\1\3" + houses()[5:16], "refused 2 place 0"),
+    ("3 sixteen bytes of version 3", houses()[:16], "refused 3 place 0"),
+    ("3 sixteen bytes of version 3, no subject", changed(houses(), 16, {5: 0}), "refused 3 place 0"),
+    ("3 seventeen bytes of version 3", houses()[:17], "refused 3 place 0"),
+    ("4 seventeen bytes of version 3, no subject", changed(houses(), 17, {5: 0}), "refused 4 place 0"),
+    ("3 568 bytes of version 3", houses()[:-1], "refused 3 place 0"),
+    ("3 570 bytes of version 3", houses() + b"\0", "refused 3 place 0"),
+    ("the longest file of version 3, 12,607 bytes", LONGEST_OF_3, "accepted"),
+    ("3 12,606 bytes of version 3", LONGEST_OF_3[:-1], "refused 3 place 0"),
+    ("3 12,608 bytes of version 3", LONGEST_OF_3 + b"\0", "refused 3 place 0"),
+]
+
+
+# the entries, by the number that a case has
+CHECK, CHEAPEST, OFFERED, WHY, REWRITE = range(5)
+WIDE = (64, 128, 128)
+EXACT = (6, 12, 12)
+
+
 def allowed(file, steps):
     return file[:11] + struct.pack(">I", steps) + file[15:]
 
 
+# the sample night with its join as one on the pair of S and C, U as user
+ON_ONE_PAIR = with_pairs(changed(sample(), 741, {369: 9, 372: 255, 373: 255}), 2, {3: (0, 1)}, ((0, 4),))
 # name, file, lengths of the rooms for choice, plan and keys, what document 01 says of the cheapest choice
 CHEAPESTS = [
     ("cheapest, 76 steps allowed", sample(), WIDE, "total 14 steps 76"),
@@ -222,6 +299,13 @@ CHEAPESTS = [
     ("11 before 17", with_user(sample()[:740] + b"\1", 0), WIDE, "refused 11 place 71"),
     ("13 after 17, U as user", with_user(allowed(sample(), 75), 2), WIDE, "refused 13 place 0"),
     ("15 after 17, U as user", with_user(sample(), 2), (6, 12, 11), "refused 15 place 3"),
+    ("cheapest by house and cycle", houses(), (5, 10, 12), "total 23 steps 20"),
+    ("cheapest by house and cycle, neither needed", changed(houses(), 569, join(needed=0)), WIDE, "total 23 steps 20"),
+    ("13 by house and cycle, 19 steps allowed", allowed(houses(), 19), WIDE, "refused 13 place 0"),
+    ("17 the grower asks for the climate", houses(user=0), WIDE, "refused 17 place 1"),
+    ("17 the laboratory asks for the harvest", houses(user=1), WIDE, "refused 17 place 0"),
+    ("15 plan by house and cycle", houses(), (5, 9, 12), "refused 15 place 2"),
+    ("cheapest, the sample's join as a join on one pair", ON_ONE_PAIR, EXACT, "total 14 steps 76"),
     ("cheapest of a leaf alone, its owner as user", with_user(allowed(alone([(0, 0, 1, 0)]), 0), 0), (1, 2, 2), "total 0 steps 0"),
 ]
 # the same with the offered choice before the rooms
@@ -244,6 +328,9 @@ OFFERS = [
     ("15 plan, offered", sample(), SAMPLE_CHOICE, (0, 11, 11), "refused 15 place 2"),
     ("15 keys, offered", sample(), SAMPLE_CHOICE, (0, 12, 11), "refused 15 place 3"),
     ("offered, U as user", with_user(sample(), 2), SAMPLE_CHOICE, WIDE, "total 14"),
+    ("offered, the grower joins by house and cycle", houses(), bytes([0, 1, 0, 1, 1]), WIDE, "total 24"),
+    ("14 who sees half of the cycle in clear", houses(), bytes([0, 1, 4, 1, 1]), WIDE, "refused 14 place 2"),
+    ("offered, the sample's join as a join on one pair", ON_ONE_PAIR, SAMPLE_CHOICE, WIDE, "total 14"),
     ("17 before 14 and 15, H as user", with_user(sample(), 0), bytes(5), (0, 0, 0), "refused 17 place 2"),
     ("17 where 12 and 13 are not asked", with_user(allowed(parted(), 0), 1), bytes([0, 1, 0]), WIDE, "refused 17 place 0"),
     ("14 after 17, U as user", with_user(sample(), 2), bytes(5), WIDE, "refused 14 place 6"),
@@ -270,6 +357,14 @@ WHYS = [
     ("why, a join, half of the right one's tied set sealed", reasons(), 5, 6, "right 3 4,5"),
     ("why, a join, who sees all in clear", reasons(), 5, 7, "candidate"),
     ("why, a comparison that ties what is seen clear and sealed", reasons(), 6, 0, "result 3 1,2,4,5"),
+    ("why, who sees the house in clear and the cycle sealed", houses(), 2, 3, "candidate"),
+    ("why, who sees half of the cycle in clear", houses(), 2, 4, "result 3 1,4"),
+    ("why, the grower, who sees both in clear", houses(), 2, 0, "candidate"),
+    ("why, the grower, who sees the warmth sealed", houses(), 3, 0, "left 1 5"),
+    ("why, the first machine at the weight", houses(), 4, 3, "left 1 5"),
+    ("why, the first machine, the cycle needed too", changed(houses(), 569, join(needed=0b011011)), 2, 3, "left 1 1"),
+    ("why, the first machine, house with house and house with cycle", changed(houses(), 569, join(p2=0, needed=0)), 2, 3, "result 3 0,3,4"),
+    ("why, I at the join on one pair", ON_ONE_PAIR, 3, 1, "result 3 0,4"),
     ("16 a leaf", sample(), 0, 0, "refused 16 place 0"),
     ("16 the last leaf", sample(), 2, 1, "refused 16 place 2"),
     ("16 a leaf alone", alone([(0, 0, 1, 0)]), 0, 0, "refused 16 place 0"),
@@ -284,7 +379,7 @@ WHYS = [
     ("why, I at the join, where X asked", with_user(sample(), 3), 3, 1, "result 3 0,4"),
 ]
 # room for any file
-LONGEST = 11968
+LONGEST = 12607
 # name, file, length of the room, what ticket 2026-04 says of the file written again from its values; all else in the room has to stay
 REWRITES = [
     ("rewritten, the sample night", sample(), LONGEST, "741 bytes"),
@@ -297,8 +392,15 @@ REWRITES = [
     ("rewritten, all nine kinds", all_kinds(), 590, "590 bytes"),
     ("rewritten, a leaf alone", alone([(0, 0, 1, 0)]), 78, "78 bytes"),
     ("rewritten, the longest file", longest(), 11967, "11967 bytes"),
-    ("rewritten, the longest file of version 2", with_user(longest(), 15), LONGEST, "11968 bytes"),
+    ("rewritten, the longest file of version 2", with_user(longest(), 15), 11968, "11968 bytes"),
     ("15 11,967 bytes of room for 11,968", with_user(longest(), 15), 11967, "refused 15 place 4"),
+    ("rewritten, harvest and climate", houses(), 569, "569 bytes"),
+    ("15 568 bytes of room, harvest and climate", houses(), 568, "refused 15 place 4"),
+    ("rewritten, the longest file of version 3", LONGEST_OF_3, LONGEST, "12607 bytes"),
+    ("15 12,606 bytes of room for 12,607", LONGEST_OF_3, 12606, "refused 15 place 4"),
+    ("rewritten, 8 the last pair past the list", changed(houses(), 569, join(first=1)), LONGEST, "refused 8 place 2"),
+    ("rewritten, 9 left's and right's exchanged", changed(houses(), 569, join(p0=3, p1=0)), LONGEST, "refused 9 place 2"),
+    ("rewritten, 10 half a pair", changed(houses(), 569, join(needed=1)), 0, "refused 10 place 2"),
     ("rewritten, where 12 is not asked", parted(), 193, "193 bytes"),
     ("rewritten, where 13 is not asked", allowed(sample(), 0), 741, "741 bytes"),
     ("rewritten, where 17 is not asked", with_user(sample(), 0), 742, "742 bytes"),
@@ -331,7 +433,7 @@ def first_of_each(cases):
 def main():
     cases = [(name, changed(sample(), length, edits), said) for name, length, edits, said in FIGURES]
     cases += [(name, changed(all_kinds(), len(all_kinds()), edits), said) for name, edits, said in KINDS]
-    cases += OTHERS + WITH_USER
+    cases += OTHERS + WITH_USER + [(name, changed(houses(), 569, edits), said) for name, edits, said in HOUSES] + WITH_PAIRS
     refused = list(first_of_each(cases))
     with open("crates/facts/stdin", "wb") as given, open("crates/facts/stdout", "w", encoding="ascii") as expected:
         for name, file, said in cases:

@@ -1,6 +1,6 @@
 #!/usr/bin/env python3
 """Writes document 01's sample night as samples/night.axp, with U as user as samples/night2.axp, and in the specs as a list of bytes and as
-values; and samples/reasons.axp.
+values; samples/reasons.axp; and samples/houses.axp, a join on two pairs.
 The files of the specs are laid out by `rt fmt` afterwards.
 
 Run from the repository's root. The grants are those of figure 4 of source document 004.
@@ -16,7 +16,7 @@ RELATIONS = [
     ("H", "SBDT", "H SBDT - I B SDT U SDT - X DT S Y BDT S Z ST D * DT -"),
     ("I", "CP", "H C P I CP - U CP - X - CP Y P C Z C P * - P"),
 ]
-LEAF, PROJECT, SELECT, COMPARE, PRODUCT, JOIN, AGGREGATE, COUNT, FUNCTION = range(9)
+LEAF, PROJECT, SELECT, COMPARE, PRODUCT, JOIN, AGGREGATE, COUNT, FUNCTION, JOIN_ON_PAIRS = range(10)
 # kind, left, right, x, y, set, needed, size
 NODES = [
     (LEAF, NONE, NONE, 0, NONE, "SDT", "", 4),
@@ -65,6 +65,16 @@ def file_of(s, a, relations, granted, nodes, step_prices, link_price):
 def with_user(data, user):
     """A file of version 1 in version 2, with a user after the steps allowed."""
     return data[:3] + struct.pack(">H", 2) + data[5:15] + bytes([user]) + data[15:]
+
+
+def with_pairs(data, user, named, pairs):
+    """A file of version 1 in version 3: with a user, with pairs between the nodes and the prices, and for each node the first pair that it names
+    and how many."""
+    start = 15 + 9 * data[6] + 18 * int.from_bytes(data[9:11], "big")
+    prices = start + 28 * data[8]
+    parts = [data[:3], struct.pack(">H", 3), data[5:15], bytes([user, len(pairs)]), data[15:start]]
+    parts += [data[at : at + 28] + bytes(named.get(i, (0, 0))) for i, at in enumerate(range(start, prices, 28))]
+    return b"".join(parts + [bytes(pair) for pair in pairs] + [data[prices:]])
 
 
 def sample():
@@ -132,6 +142,38 @@ def reasons():
     return file_of(8, 6, relations, granted, nodes, [3, 3, 3, 3, 3, 3, 3, 5], 1)
 
 
+# the houses: attributes house, cycle, weight of the grower's harvest and house, cycle, temperature of the laboratory's climate; subjects grower,
+# laboratory, adviser, and two rented machines
+HOUSE, CYCLE, WEIGHT, PLACE, ROUND, WARMTH = (1 << k for k in range(6))
+
+
+def houses(pairs=((0, 3), (1, 4)), named=None, needed=HOUSE | PLACE, user=2):
+    """Harvest and climate joined on house and cycle, the house needed in clear; who was too warm, and the weight by house. The first machine sees
+    the house in clear and the cycle sealed, the second sees half of the cycle in clear."""
+    harvest, climate = HOUSE | CYCLE | WEIGHT, PLACE | ROUND | WARMTH
+    granted = [
+        (0, 0, harvest, 0),
+        (0, 1, HOUSE | CYCLE, WEIGHT),
+        (0, 2, harvest, 0),
+        (0, 3, HOUSE, CYCLE | WEIGHT),
+        (0, 4, HOUSE | CYCLE, WEIGHT),
+        (1, 0, PLACE | ROUND, WARMTH),
+        (1, 1, climate, 0),
+        (1, 2, climate, 0),
+        (1, 3, PLACE, ROUND | WARMTH),
+        (1, 4, PLACE, ROUND | WARMTH),
+    ]
+    nodes = [
+        (LEAF, NONE, NONE, 0, NONE, harvest, 0, 2),
+        (LEAF, NONE, NONE, 1, NONE, climate, 0, 2),
+        (JOIN_ON_PAIRS, 0, 1, NONE, NONE, 0, needed, 2),
+        (SELECT, 2, NONE, 5, NONE, 0, WARMTH, 1),
+        (AGGREGATE, 3, NONE, 2, NONE, HOUSE, 0, 1),
+    ]
+    data = file_of(5, 6, [(0, harvest), (1, climate)], granted, nodes, [4, 8, 9, 1, 1], 1)
+    return with_pairs(data[:11] + struct.pack(">I", 20) + data[15:], user, {2: named or (0, len(pairs))}, pairs)
+
+
 def longest():
     """Every count at its limit, all 64 bits of the sets in use: 16 leaves, 15 products over them, 33 selects on top."""
     sets = [0xF << 4 * r for r in range(16)]
@@ -164,16 +206,17 @@ def decoded():
     s = len(SUBJECTS)
     relations = [value("owner set", (SUBJECTS.index(owner), bits(names))) for owner, names, _ in RELATIONS]
     granted = [value("relation subject clear sealed", grant) for grant in grants()]
-    fields = "kind left right x y spare1 spare2 spare3 set needed size"
-    nodes = [value(fields, (k, l, r, number(x), number(y), 0, 0, 0, bits(held), bits(needed), size)) for k, l, r, x, y, held, needed, size in NODES]
+    fields = "kind left right x y spare1 spare2 spare3 set needed size first count"
+    nodes = [value(fields, (k, l, r, number(x), number(y), 0, 0, 0, bits(held), bits(needed), size, 0, 0)) for k, l, r, x, y, held, needed, size in NODES]
     steps = [[0] * s if node[0] == LEAF else STEP_PRICES for node in NODES]
     links = [[0 if to == sender else LINK_PRICE for to in range(s)] for sender in range(s)]
     lists = [[" ∷ ".join("%d" % price for price in row) + " ∷ []" for row in table] for table in (steps, links)]
     counts = (s, len(RELATIONS), len(ATTRIBUTES), len(NODES), len(granted), STEPS_ALLOWED)
     header = value("subjects relations attributes nodes grants steps", counts)
-    parts = [("header", " " + header.replace("{ ", "{ version = version; ").replace(" }", "; user = user }"))]
+    parts = [("header", " " + header.replace("{ ", "{ version = version; ").replace(" }", "; user = user; pairs = 0 }"))]
     for name, items in [("relations", relations), ("grants", granted), ("nodes", nodes)]:
         parts.append((name, rows(items)))
+    parts.append(("pairs", " []"))
     for name, items in [("stepPrices", lists[0]), ("linkPrices", lists[1])]:
         parts.append((name, rows("(%s)" % item for item in items)))
     return "record {\n" + "".join("      %s =%s;\n" % part for part in parts) + "    }"
@@ -187,6 +230,8 @@ def main():
         out.write(with_user(data, SUBJECTS.index(USER)))
     with open("samples/reasons.axp", "wb") as out:
         out.write(reasons())
+    with open("samples/houses.axp", "wb") as out:
+        out.write(houses())
     with open("crates/trials/specs/Sample.antt", "w", encoding="utf-8") as out:
         out.write(
             "-- Document 01's sample night as bytes, written by samples/night.py.\n"

@@ -1,6 +1,7 @@
 //! The program `answers`: cases over its standard input, its lines compared.
 
 use crate::coverage::{Line, line};
+use crate::file::VERSIONS;
 use crate::generate::{Case, LONGEST_OFFER, LONGEST_TAKEN};
 use crate::planner::{Rooms, Study, study};
 use crate::program::printed;
@@ -13,8 +14,8 @@ pub struct Stream {
     input: Vec<u8>,
     expected: Vec<String>,
     labels: Vec<String>,
-    /// How many of the files are read as version 2.
-    of_version_2: usize,
+    /// How many of the files are read, by the version.
+    read: [usize; VERSIONS],
 }
 
 fn header(file: usize, offer: usize, rooms: &Rooms) -> Vec<u8> {
@@ -34,16 +35,19 @@ impl Stream {
         let number = self.expected.len();
         self.expected.push(text::case(number, study, &case.offer, &case.rooms));
         self.labels.push(label);
-        let of_version_2 = study.as_ref().is_ok_and(|study| study.file.version() == 2);
-        self.of_version_2 += usize::from(of_version_2);
+        if let Ok(study) = study {
+            self.read[study.file.version() - 1] += 1;
+        }
     }
 
     /// The table's lines, where so many cases were wanted.
-    pub fn lines(&self, wanted: usize) -> [Line; 2] {
-        [
-            line("cases through answers", self.expected.len(), wanted),
-            line("readable files of version 2 through answers", self.of_version_2, wanted / 5),
-        ]
+    pub fn lines(&self, wanted: usize) -> Vec<Line> {
+        let sent = line("cases through answers", self.expected.len(), wanted);
+        let of_version = |(version, &read): (usize, &usize)| {
+            let what = format!("readable files of version {version} through answers");
+            line(&what, read, wanted * 3 / 20)
+        };
+        [sent].into_iter().chain((1..).zip(&self.read).map(of_version)).collect()
     }
 
     /// Sends the cases with `tail` after them, which must bring `last`.

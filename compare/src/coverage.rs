@@ -3,6 +3,7 @@
 use crate::every::Tried;
 use crate::failing::Failing;
 use crate::generate::Case;
+use crate::paircount::Pairs;
 use crate::planner::{Answer, Key, Study};
 use crate::reading::Refusal;
 use crate::slips;
@@ -17,18 +18,18 @@ pub const FULL_LARGE: usize = 50;
 
 /// Floors for refusals 1 to 15.
 const LEAST_REFUSED: [usize; 15] = [
-    1_350, 1_300, 5_400, 2_200, 4_600, 5_600, 550, 4_600, 3_100, 1_000, 1_400, 1_600, 11_000,
-    18_500, 11_700,
+    1_200, 1_300, 5_850, 1_950, 3_700, 4_000, 440, 5_800, 3_350, 1_350, 850, 1_050, 10_500, 17_500,
+    10_500,
 ];
-/// Floors for kinds 0 to 8.
-const LEAST_OF_KIND: [usize; 9] =
-    [96_000, 47_500, 73_000, 48_000, 11_500, 22_500, 48_000, 23_500, 48_000];
+/// Floors for kinds 0 to 9.
+const LEAST_OF_KIND: [usize; 10] =
+    [104_000, 45_500, 69_000, 45_500, 11_000, 20_500, 45_500, 22_500, 45_500, 11_500];
 /// Floors for the slips, in the order of their names.
 const LEAST_SHOWN: [usize; slips::NAMES.len()] =
-    [21_800, 8_200, 750, 40, 1_000, 9_000, 8_700, 3_500, 13_300, 4_200];
+    [24_500, 11_000, 670, 35, 1_000, 9_900, 12_000, 3_700, 16_500, 4_850];
 /// Floors for the sorts of answers to why a subject is out.
 const LEAST_OF_SORT: [usize; SORTS.len()] =
-    [690_000, 268_000, 155_000, 62_000, 7_600, 10_200, 2_650, 10_100, 123_000, 470_000, 260_000];
+    [721_000, 281_000, 165_000, 64_500, 9_100, 12_500, 3_350, 13_500, 131_000, 479_000, 272_000];
 
 /// From so many nodes and subjects on an answered file counts as broad, and
 /// from so many nodes on an accepted offer as one on a long file.
@@ -94,7 +95,7 @@ struct Whys {
 pub struct Coverage {
     /// By number; 16 is counted by the questions that bring it.
     refusals: [usize; 18],
-    kinds: [usize; 9],
+    kinds: [usize; 10],
     readable: usize,
     at_the_limits: usize,
     answered: usize,
@@ -120,6 +121,7 @@ pub struct Coverage {
     tiny: Tiny,
     whys: Whys,
     pub users: Users,
+    pub pairs: Pairs,
     pub writes: Writes,
 }
 
@@ -232,9 +234,9 @@ impl Coverage {
                 .collect::<Vec<Line>>()
         };
         let mut lines = numbered("cases with refusal", 1, &self.refusals[1..16], &LEAST_REFUSED);
-        lines.push(line("cases with refusal 17", self.refusals[17], 3_600));
+        lines.push(line("cases with refusal 17", self.refusals[17], 5_350));
         lines.push(line("readable files", self.readable, 59_000));
-        lines.push(line("readable files, 64 nodes and 16 subjects", self.at_the_limits, 240));
+        lines.push(line("readable files, 64 nodes and 16 subjects", self.at_the_limits, 210));
         lines.extend(numbered("nodes in readable files of kind", 0, &self.kinds, &LEAST_OF_KIND));
         lines.extend(self.lines_of_answers());
         lines.extend(self.lines_of_broad());
@@ -243,6 +245,7 @@ impl Coverage {
         }
         lines.extend(self.lines_of_whys());
         lines.extend(self.users.lines());
+        lines.extend(self.pairs.lines());
         lines.extend(self.writes.lines());
         lines.extend(self.lines_of_pointers());
         lines.extend(self.lines_of_runs());
@@ -251,42 +254,42 @@ impl Coverage {
 
     fn lines_of_answers(&self) -> [Line; 13] {
         [
-            line("steps without a candidate", self.without_candidates, 7_500),
-            line("steps with several candidates", self.several_candidates, 205_000),
-            line("files with a root tied set of 5 or more", self.wide_ties, 1_850),
-            line("cheapest answered", self.answered, 33_300),
+            line("steps without a candidate", self.without_candidates, 6_650),
+            line("steps with several candidates", self.several_candidates, 227_000),
+            line("files with a root tied set of 5 or more", self.wide_ties, 3_500),
+            line("cheapest answered", self.answered, 31_000),
             line(
                 "cheapest answered, another if compared from the first node",
                 self.order_matters,
-                1_190,
+                1_250,
             ),
-            line("cheapest answered, total beyond 32 bits", self.wide_totals, 50),
-            line("cheapest answered, a root tied set of 5 or more", self.answered_wide_ties, 1_150),
+            line("cheapest answered, total beyond 32 bits", self.wide_totals, 55),
+            line("cheapest answered, a root tied set of 5 or more", self.answered_wide_ties, 1_950),
             line("cheapest found by enumeration and by recursion", self.enumerated, 51_000),
-            line("cheapest so found, several of the least total", self.tied_totals, 11_000),
-            line("offers accepted", self.accepted_offers, 31_500),
-            line("offers accepted, 20 nodes or more", self.accepted_long_offers, 1_900),
-            line("offers accepted, 64 nodes", self.accepted_longest_offers, 200),
-            line("keys of several attributes", self.shared_keys, 30_500),
+            line("cheapest so found, several of the least total", self.tied_totals, 12_500),
+            line("offers accepted", self.accepted_offers, 29_000),
+            line("offers accepted, 20 nodes or more", self.accepted_long_offers, 1_950),
+            line("offers accepted, 64 nodes", self.accepted_longest_offers, 180),
+            line("keys of several attributes", self.shared_keys, 41_500),
         ]
     }
 
     fn lines_of_broad(&self) -> [Line; 6] {
         let broad = &self.broad;
         [
-            line("broad (40 nodes and 10 subjects or more) answered", broad.answered, 1_030),
-            line("broad answered, 64 nodes and 16 subjects", broad.at_the_limits, 180),
-            line("broad answered, something opened", broad.with_opening, 700),
+            line("broad (40 nodes and 10 subjects or more) answered", broad.answered, 1_000),
+            line("broad answered, 64 nodes and 16 subjects", broad.at_the_limits, 170),
+            line("broad answered, something opened", broad.with_opening, 750),
             line(
                 "broad answered, a chosen subject that sees sealed alone",
                 broad.with_sealed_view,
-                640,
+                620,
             ),
-            line("broad answered, a key of several attributes", broad.with_shared_key, 910),
+            line("broad answered, a key of several attributes", broad.with_shared_key, 960),
             line(
                 "steps in broad answered, for some subjects but not all",
                 broad.contested_steps,
-                47_500,
+                52_000,
             ),
         ]
     }
@@ -298,11 +301,11 @@ impl Coverage {
             .map(|((sort, count), least)| line(&format!("asked why: {sort}"), count, least))
             .collect();
         lines.extend([
-            line("asked why: one named of several that offend", whys.several_offend, 168_000),
-            line("asked why: one named that is implicit alone", whys.implicit_alone, 159_000),
-            line("asked why: a tied set of 3 or more named", whys.wide_ties, 31_500),
-            line("asked why: a tied set named, not all of it visible", whys.faded_ties, 43_000),
-            line("asked why: a tied set named, another fails too", whys.ties_behind, 7_700),
+            line("asked why: one named of several that offend", whys.several_offend, 190_000),
+            line("asked why: one named that is implicit alone", whys.implicit_alone, 168_000),
+            line("asked why: a tied set of 3 or more named", whys.wide_ties, 38_000),
+            line("asked why: a tied set named, not all of it visible", whys.faded_ties, 45_000),
+            line("asked why: a tied set named, another fails too", whys.ties_behind, 11_000),
         ]);
         lines
     }
@@ -310,27 +313,27 @@ impl Coverage {
     fn lines_of_pointers(&self) -> [Line; 6] {
         let [file, offer, choice, plan, keys] = self.null;
         [
-            line("null pointers with length 0 for the file", file, 35),
-            line("null pointers with length 0 for the offer", offer, 670),
-            line("null pointers with length 0 for the choice", choice, 1_000),
-            line("null pointers with length 0 for the plan", plan, 770),
-            line("null pointers with length 0 for the keys", keys, 800),
-            line("other pointers to nowhere with length 0", self.nowhere, 3_600),
+            line("null pointers with length 0 for the file", file, 25),
+            line("null pointers with length 0 for the offer", offer, 620),
+            line("null pointers with length 0 for the choice", choice, 910),
+            line("null pointers with length 0 for the plan", plan, 780),
+            line("null pointers with length 0 for the keys", keys, 780),
+            line("other pointers to nowhere with length 0", self.nowhere, 3_450),
         ]
     }
 
     fn lines_of_runs(&self) -> [Line; 9] {
         let tiny = &self.tiny;
         [
-            line("built plans run clean", self.clean_runs, 64_000),
-            line("built plans of wrong choices run, none clean", self.faulty_runs, 2_700),
+            line("built plans run clean", self.clean_runs, 61_000),
+            line("built plans of wrong choices run, none clean", self.faulty_runs, 2_650),
             line("tiny files with every plan tried", tiny.files, 10_000),
-            line("tiny files so tried, even with sets out of place", tiny.raw, 5_900),
-            line("tiny files so tried, with the delivery", tiny.delivered, 4_300),
-            line("choices in tiny files so tried", tiny.choices, 61_000),
-            line("plans in tiny files so tried", tiny.plans, 10_000_000),
+            line("tiny files so tried, even with sets out of place", tiny.raw, 4_400),
+            line("tiny files so tried, with the delivery", tiny.delivered, 5_700),
+            line("choices in tiny files so tried", tiny.choices, 55_500),
+            line("plans in tiny files so tried", tiny.plans, 9_500_000),
             line("runs in tiny files so tried", tiny.runs, 10_000_000),
-            line("runs that end at a delivery, 17 refused", tiny.undelivered, 1_500),
+            line("runs that end at a delivery, 17 refused", tiny.undelivered, 1_600),
         ]
     }
 }

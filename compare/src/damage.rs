@@ -6,7 +6,7 @@ use crate::rng::Rng;
 
 /// Versions that there are not, some of which would be if only one of the two
 /// bytes were read, or the two in the other order.
-pub const OTHER_VERSIONS: [u64; 6] = [0, 3, 256, 257, 258, 512];
+pub const OTHER_VERSIONS: [u64; 8] = [0, 4, 256, 257, 258, 259, 512, 768];
 
 /// Bytes put in the place of others.
 pub struct Patch {
@@ -66,7 +66,7 @@ impl Patches<'_> {
             self.number(at, 1, &[0, u64::from(letter ^ 32), 255]);
         }
         self.number(3, 2, &OTHER_VERSIONS);
-        self.number(3, 2, &[1, 2, 65_535]);
+        self.number(3, 2, &[1, 2, 3, 65_535]);
         for (at, limit) in [(5, 16), (6, 16), (7, 64), (8, 64)] {
             let count = u64::from(self.written[at]);
             self.number(at, 1, &[0, limit, limit + 1, 255, count - 1, count + 1]);
@@ -75,6 +75,10 @@ impl Patches<'_> {
         self.number(9, 2, &[272, 273, 65_535, grants + 1, grants.saturating_sub(1)]);
         self.number(11, 4, &[0, 1]);
         self.user();
+        if self.file.pairs.is_some() {
+            let pairs = self.file.list().len() as u64;
+            self.number(PAIRS_AT, 1, &[0, 255, pairs.saturating_sub(1), (pairs + 1).min(255)]);
+        }
     }
 
     /// Every other user, and numbers that nobody has: the first of them, and some
@@ -126,11 +130,11 @@ impl Patches<'_> {
     /// What may stand in its field, but mostly against the rule of its kind:
     /// apart from the other faults of nodes, or these would crowd it out.
     fn kinds(&mut self) {
-        let start = self.file.layout().nodes;
-        let places = (0..self.file.nodes.len()).map(|node| start + NODE * node);
+        let layout = self.file.layout();
+        let places = (0..self.file.nodes.len()).map(|node| layout.node_at(node));
         let leaves: Vec<usize> = places.filter(|&at| self.written[at] == 0).collect();
         for (index, node) in self.file.nodes.iter().enumerate() {
-            let at = start + NODE * index;
+            let at = layout.node_at(index);
             let [left, x, y] = [1, 3, 4].map(|field| u64::from(self.written[at + field]));
             let any = self.rng.below(self.file.attributes) as u64;
             let leaf = self.rng.pick(&leaves);
@@ -149,6 +153,11 @@ impl Patches<'_> {
                     self.number(at + 8, 8, &[0, toggled]);
                     self.number(at + 3, 1, &[any]);
                 }
+                // One pair or another alone, which shared attributes make a half.
+                Work::JoinPairs { ref pairs, .. } => {
+                    let alone = |&(x, y): &(usize, usize)| 1 << x | 1 << y;
+                    self.number(at + 16, 8, &pairs.iter().map(alone).collect::<Vec<u64>>());
+                }
             }
             let reads = node.work.reads().bits();
             self.number(at + 16, 8, &[reads, reads & reads.wrapping_neg()]);
@@ -158,9 +167,9 @@ impl Patches<'_> {
     fn nodes(&mut self) {
         let count = self.file.nodes.len();
         for index in 0..count {
-            let at = self.file.layout().nodes + NODE * index;
+            let at = self.file.layout().node_at(index);
             let kind = self.rng.below(9) as u64;
-            self.number(at, 1, &[9, 255, kind]);
+            self.number(at, 1, &[9, 10, 255, kind]);
             for field in [1, 2] {
                 let other = self.rng.below(count) as u64;
                 self.number(at + field, 1, &[255, 0, index as u64, count as u64, other]);
@@ -176,6 +185,41 @@ impl Patches<'_> {
             self.set(at + 8);
             self.set(at + 16);
             self.number(at + 24, 4, &[MOST_SIZE, MOST_SIZE + 1, u32::MAX.into()]);
+            if self.file.pairs.is_some() {
+                self.named(at + NAMED_AT);
+            }
+        }
+    }
+
+    /// Which pairs a node names: one further on or back, one more or fewer, up to the
+    /// list's end and past it.
+    fn named(&mut self, at: usize) {
+        let pairs = self.file.list().len() as u64;
+        let [first, count] = [at, at + 1].map(|at| u64::from(self.written[at]));
+        let next_to = |number: u64| [number.saturating_sub(1), (number + 1).min(255)];
+        let last = pairs.saturating_sub(count);
+        self.number(at, 1, &[0, 255, last, (last + 1).min(255)]);
+        self.number(at, 1, &next_to(first));
+        self.number(at + 1, 1, &[0, 8, 9, 255]);
+        self.number(at + 1, 1, &next_to(count));
+    }
+
+    /// The pairs that nodes name: attributes that are not there or on the wrong side,
+    /// and such as would be right if they were cut to fewer bits.
+    fn pairs(&mut self) {
+        let start = self.file.layout().pairs;
+        for node in &self.file.nodes {
+            let Work::JoinPairs { first, ref pairs, .. } = node.work else { continue };
+            for (index, &(x, y)) in pairs.iter().enumerate() {
+                let at = start + 2 * (first + index);
+                for (side, held) in [x, y].into_iter().enumerate() {
+                    let any = self.rng.below(self.file.attributes) as u64;
+                    let cut = self.rng.pick(&[64, 128, 192]) + held as u64;
+                    let past = self.file.attributes as u64;
+                    self.number(at + side, 1, &[past, 64, 255, any, cut]);
+                }
+                self.number(at, 2, &[(y << 8 | x) as u64]);
+            }
         }
     }
 
@@ -201,6 +245,7 @@ pub fn patches(rng: &mut Rng, file: &File) -> Vec<Vec<Patch>> {
         Patches::grants,
         Patches::nodes,
         Patches::kinds,
+        Patches::pairs,
         Patches::prices,
     ];
     for make in makers {

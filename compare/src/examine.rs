@@ -8,6 +8,7 @@ use crate::generate::Case;
 use crate::planner::{Answer, Study};
 use crate::reading::Refusal;
 use crate::run;
+use crate::twins;
 use crate::why::Verdict;
 use crate::whys;
 
@@ -21,6 +22,13 @@ pub fn examine(
     coverage: &mut Coverage,
 ) -> Result<(), String> {
     coverage.pointers(case, study.is_ok());
+    if let Some(known) = &case.known {
+        coverage.pairs.fault(known);
+        if study.as_ref().err() != Some(&known.refusal) {
+            let given = study.as_ref().err();
+            return Err(format!("made for {known:?}, but read with {given:?}"));
+        }
+    }
     match study {
         Ok(study) => examine_read(case, study, verdicts, coverage),
         Err(refusal) => {
@@ -43,6 +51,7 @@ fn examine_read(
         return Err("the file written again is another".into());
     }
     user_stands(study)?;
+    twins::hold(case, study, verdicts, coverage)?;
     two_ways(study, coverage)?;
     examine_answers(case, study, coverage)?;
     wrong_runs_faulty(study, &case.offer, coverage)?;
@@ -51,6 +60,7 @@ fn examine_read(
         && let Some(tried) = every::try_every(study)?
     {
         coverage.tried(&tried);
+        coverage.pairs.tried(study);
     }
     Ok(())
 }
@@ -67,7 +77,7 @@ fn examine_answers(case: &Case, study: &Study, coverage: &mut Coverage) -> Resul
         coverage.accepted(study);
     }
     if study.file.user.is_some() && cheapest.as_ref().is_err_and(|refusal| refusal.number == 12) {
-        return Err("refusal 12 for a file of version 2".into());
+        return Err("refusal 12 for a file with a user".into());
     }
     let refusals: Vec<Refusal> =
         [&cheapest, &offered].into_iter().filter_map(|r| r.as_ref().err().copied()).collect();
@@ -78,6 +88,7 @@ fn examine_answers(case: &Case, study: &Study, coverage: &mut Coverage) -> Resul
         runs_clean(study, answer, coverage)?;
     }
     coverage.users.read(study, case, &answers);
+    coverage.pairs.read(study, &answers);
     Ok(())
 }
 
@@ -94,6 +105,7 @@ fn reasons_hold(
     for (&asked, verdict) in case.questions.iter().zip(verdicts) {
         let failing = steps.checked(asked, verdict)?;
         coverage.why(whys::sort(study, asked, verdict), &failing);
+        coverage.pairs.why(study, asked, verdict);
         all.push(failing);
     }
     Ok(all)

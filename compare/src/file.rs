@@ -2,16 +2,23 @@
 
 use crate::sets::Flags;
 
-/// How long the header is; that of version 2 ends with the user.
+/// Versions 1 to 3; each keeps what earlier ones have added.
+pub const VERSIONS: usize = 3;
+/// How long the header of version 1 is. Version 2 puts the user behind it,
+/// version 3 the number of pairs behind the user.
 const HEADER: usize = 15;
 pub const USER_AT: usize = HEADER;
+pub const PAIRS_AT: usize = HEADER + 1;
 pub const RELATION: usize = 9;
 pub const GRANT: usize = 18;
-pub const NODE: usize = 28;
-/// How long a file of version 1 can be, every count at its limit; one of version
-/// 2 has a byte more.
-pub const LONGEST_1: usize = 11_967;
-pub const LONGEST_2: usize = LONGEST_1 + 1;
+/// Where the record of a node ends in version 1; from version 3 on the number of
+/// its first pair and a count follow.
+pub const NAMED_AT: usize = 28;
+/// How long a file of each version can be, every count at its limit.
+pub const LONGEST: [usize; VERSIONS] = [11_967, 11_968, 12_607];
+/// How many pairs a join may have, and how many the list.
+pub const MOST_JOINED: usize = 8;
+pub const MOST_PAIRS: usize = 255;
 pub const ANY: u8 = 255;
 pub const UNUSED: u8 = 255;
 pub const MOST_SIZE: u64 = 1_000_000;
@@ -36,15 +43,54 @@ pub struct Grant {
 /// A node's kind together with just what that kind uses.
 #[derive(Clone, PartialEq, Debug)]
 pub enum Work {
-    Leaf { relation: usize, set: Flags },
-    Project { from: usize, set: Flags },
-    SelectValue { from: usize, x: usize },
-    SelectPair { from: usize, x: usize, y: usize },
-    Product { left: usize, right: usize },
-    Join { left: usize, right: usize, x: usize, y: usize },
-    Aggregate { from: usize, set: Flags, x: usize },
-    Count { from: usize, set: Flags },
-    Function { from: usize, set: Flags, x: usize },
+    Leaf {
+        relation: usize,
+        set: Flags,
+    },
+    Project {
+        from: usize,
+        set: Flags,
+    },
+    SelectValue {
+        from: usize,
+        x: usize,
+    },
+    SelectPair {
+        from: usize,
+        x: usize,
+        y: usize,
+    },
+    Product {
+        left: usize,
+        right: usize,
+    },
+    Join {
+        left: usize,
+        right: usize,
+        x: usize,
+        y: usize,
+    },
+    Aggregate {
+        from: usize,
+        set: Flags,
+        x: usize,
+    },
+    Count {
+        from: usize,
+        set: Flags,
+    },
+    Function {
+        from: usize,
+        set: Flags,
+        x: usize,
+    },
+    /// The pairs as they stand in the list from `first` on, left's attribute first.
+    JoinPairs {
+        left: usize,
+        right: usize,
+        first: usize,
+        pairs: Vec<(usize, usize)>,
+    },
 }
 
 impl Work {
@@ -59,6 +105,7 @@ impl Work {
             Work::Aggregate { .. } => 6,
             Work::Count { .. } => 7,
             Work::Function { .. } => 8,
+            Work::JoinPairs { .. } => 9,
         }
     }
 
@@ -70,9 +117,9 @@ impl Work {
     pub fn children(&self) -> impl Iterator<Item = usize> + use<> {
         let pair = match *self {
             Work::Leaf { .. } => [None, None],
-            Work::Product { left, right } | Work::Join { left, right, .. } => {
-                [Some(left), Some(right)]
-            }
+            Work::Product { left, right }
+            | Work::Join { left, right, .. }
+            | Work::JoinPairs { left, right, .. } => [Some(left), Some(right)],
             Work::Project { from, .. }
             | Work::SelectValue { from, .. }
             | Work::SelectPair { from, .. }
@@ -90,12 +137,23 @@ impl Work {
             Work::SelectPair { x, y, .. } | Work::Join { x, y, .. } => Flags::of(&[x, y]),
             Work::Aggregate { set, x, .. } => set.or(&Flags::of(&[x])),
             Work::Count { set, .. } | Work::Function { set, .. } => set,
+            Work::JoinPairs { ref pairs, .. } => {
+                pairs.iter().fold(Flags::NONE, |sum, &(x, y)| sum.or(&Flags::of(&[x, y])))
+            }
         }
     }
 
-    /// Kinds that need all they read in one form.
-    pub fn reads_together(&self) -> bool {
-        matches!(self, Work::SelectPair { .. } | Work::Join { .. } | Work::Function { .. })
+    /// What is read together: each of these sets is needed whole or not at all.
+    pub fn together(&self) -> Vec<Flags> {
+        match self {
+            Work::SelectPair { .. } | Work::Join { .. } | Work::Function { .. } => {
+                vec![self.reads()]
+            }
+            Work::JoinPairs { pairs, .. } => {
+                pairs.iter().map(|&(x, y)| Flags::of(&[x, y])).collect()
+            }
+            _ => Vec::new(),
+        }
     }
 
     /// What is visible after, given all that is visible in the operands.
@@ -105,7 +163,8 @@ impl Work {
             Work::SelectValue { .. }
             | Work::SelectPair { .. }
             | Work::Product { .. }
-            | Work::Join { .. } => *before,
+            | Work::Join { .. }
+            | Work::JoinPairs { .. } => *before,
             Work::Aggregate { set, x, .. } => set.or(&Flags::of(&[x])),
             Work::Function { set, x, .. } => before.minus(&set).or(&Flags::of(&[x])),
         }
@@ -121,8 +180,10 @@ pub struct Node {
 
 #[derive(Clone, PartialEq, Debug)]
 pub struct File {
-    /// Who asked: in version 2 somebody, in version 1 nobody.
+    /// Who asked: from version 2 on somebody, in version 1 nobody.
     pub user: Option<usize>,
+    /// The list of pairs as it stands: from version 3 on there is one.
+    pub pairs: Option<Vec<[u8; 2]>>,
     pub subjects: usize,
     pub attributes: usize,
     pub allowed: u32,
@@ -133,29 +194,40 @@ pub struct File {
     pub link_prices: Vec<Vec<u64>>,
 }
 
-/// How long the header of a version is, if there is such a version.
-pub fn header_of(version: u64) -> Option<usize> {
+/// How long the header and the record of a node are.
+#[derive(Clone, Copy)]
+pub struct Form {
+    pub header: usize,
+    pub node: usize,
+}
+
+/// The form of a version, if there is such a version.
+pub fn form_of(version: u64) -> Option<Form> {
     match version {
-        1 => Some(HEADER),
-        2 => Some(HEADER + 1),
+        1 => Some(Form { header: HEADER, node: NAMED_AT }),
+        2 => Some(Form { header: HEADER + 1, node: NAMED_AT }),
+        3 => Some(Form { header: HEADER + 2, node: NAMED_AT + 2 }),
         _ => None,
     }
 }
 
 /// The counts that tell how long the sections are.
 pub struct Counts {
-    pub header: usize,
+    pub form: Form,
     pub subjects: usize,
     pub relations: usize,
     pub grants: usize,
     pub nodes: usize,
+    pub pairs: usize,
 }
 
-/// Where each section starts.
+/// Where each section starts, and how far apart the nodes are.
 pub struct Layout {
     pub relations: usize,
     pub grants: usize,
     pub nodes: usize,
+    pub node: usize,
+    pub pairs: usize,
     pub step_prices: usize,
     pub link_prices: usize,
     pub end: usize,
@@ -163,29 +235,45 @@ pub struct Layout {
 
 impl Layout {
     pub fn of(counts: &Counts) -> Layout {
-        let relations = counts.header;
+        let Form { header, node } = counts.form;
+        let relations = header;
         let grants = relations + RELATION * counts.relations;
         let nodes = grants + GRANT * counts.grants;
-        let step_prices = nodes + NODE * counts.nodes;
+        let pairs = nodes + node * counts.nodes;
+        let step_prices = pairs + 2 * counts.pairs;
         let link_prices = step_prices + 4 * counts.nodes * counts.subjects;
         let end = link_prices + 4 * counts.subjects * counts.subjects;
-        Layout { relations, grants, nodes, step_prices, link_prices, end }
+        Layout { relations, grants, nodes, node, pairs, step_prices, link_prices, end }
+    }
+
+    pub fn node_at(&self, index: usize) -> usize {
+        self.nodes + self.node * index
     }
 }
 
 impl File {
     pub fn layout(&self) -> Layout {
         Layout::of(&Counts {
-            header: HEADER + usize::from(self.user.is_some()),
+            form: form_of(self.version() as u64).expect("there is such a version"),
             subjects: self.subjects,
             relations: self.relations.len(),
             grants: self.grants.len(),
             nodes: self.nodes.len(),
+            pairs: self.list().len(),
         })
     }
 
     pub fn version(&self) -> usize {
-        if self.user.is_some() { 2 } else { 1 }
+        match (self.user, &self.pairs) {
+            (None, _) => 1,
+            (Some(_), None) => 2,
+            (Some(_), Some(_)) => 3,
+        }
+    }
+
+    /// The list of pairs, empty where the version has none.
+    pub fn list(&self) -> &[[u8; 2]] {
+        self.pairs.as_deref().unwrap_or_default()
     }
 
     /// The leaves' numbers, rising.
@@ -223,6 +311,7 @@ impl File {
         out.extend((self.grants.len() as u16).to_be_bytes());
         out.extend(self.allowed.to_be_bytes());
         out.extend(self.user.map(|user| user as u8));
+        out.extend(self.pairs.as_ref().map(|pairs| pairs.len() as u8));
         for relation in &self.relations {
             out.push(relation.owner as u8);
             out.extend(relation.set.bits().to_be_bytes());
@@ -235,7 +324,11 @@ impl File {
         }
         for node in &self.nodes {
             out.extend(node.write());
+            if self.pairs.is_some() {
+                out.extend(node.work.named());
+            }
         }
+        out.extend(self.list().as_flattened());
         for &price in self.step_prices.iter().chain(&self.link_prices).flatten() {
             out.extend((price as u32).to_be_bytes());
         }
@@ -243,7 +336,18 @@ impl File {
     }
 }
 
+impl Work {
+    /// The two bytes that name its pairs, the first one's number and how many.
+    fn named(&self) -> [u8; 2] {
+        match self {
+            Work::JoinPairs { first, pairs, .. } => [*first as u8, pairs.len() as u8],
+            _ => [0, 0],
+        }
+    }
+}
+
 impl Node {
+    /// The record as version 1 has it.
     fn write(&self) -> Vec<u8> {
         let (x, y, set) = match self.work {
             Work::Leaf { relation, set } => (Some(relation), None, set),
@@ -252,7 +356,7 @@ impl Node {
             Work::SelectPair { x, y, .. } | Work::Join { x, y, .. } => {
                 (Some(x), Some(y), Flags::NONE)
             }
-            Work::Product { .. } => (None, None, Flags::NONE),
+            Work::Product { .. } | Work::JoinPairs { .. } => (None, None, Flags::NONE),
             Work::Aggregate { set, x, .. } | Work::Function { set, x, .. } => (Some(x), None, set),
         };
         let mut children = self.work.children();

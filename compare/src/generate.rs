@@ -2,7 +2,9 @@
 //! index alone.
 
 use crate::damage::{OTHER_VERSIONS, Patch, patches};
-use crate::file::{Counts, File, Layout, USER_AT, header_of};
+use crate::file::{Counts, File, Layout, PAIRS_AT, USER_AT, VERSIONS, form_of};
+use crate::pairfaults::{self, FAULTS, Known};
+use crate::pairviews::tell_apart;
 use crate::planner::{Rooms, Study, study};
 use crate::rng::Rng;
 use crate::served::serve;
@@ -24,11 +26,13 @@ pub struct Case {
     pub questions: Vec<Question>,
     /// The address that is passed where a length is 0.
     pub bare: usize,
+    /// The one fault of the file, where it is made for it.
+    pub known: Option<Known>,
 }
 
 /// One in so many cases, after which the families come round again.
 const ROUND: usize = 50;
-/// How many cases in a row damage the same file: more than it has faults.
+/// How many cases in a row damage the same file: about as many as it has faults.
 const FAULT_SPAN: usize = 500;
 const CUT_SPAN: usize = 500;
 /// Up to so many nodes, why is asked of every subject at each step; of more, of so
@@ -36,6 +40,9 @@ const CUT_SPAN: usize = 500;
 /// limits would take some 800 of them.
 const ALL_ASKED: usize = 24;
 const SOME_ASKED: usize = 3;
+/// Of a hundred tiny or small files that may have joins on several pairs, so many
+/// are made for them.
+const PAIRED: usize = 75;
 /// Of a hundred large files, so many of each size. Most are served, so that
 /// they are answered.
 const LARGE: [(usize, &str, Size, bool); 6] = [
@@ -47,7 +54,9 @@ const LARGE: [(usize, &str, Size, bool); 6] = [
     (4, "longest", Size::Longest, false),
 ];
 /// The longest file that the program `answers` takes.
-pub const LONGEST_TAKEN: usize = 12_288;
+pub const LONGEST_TAKEN: usize = 16_384;
+/// The longest file that is noise alone.
+const LONGEST_NOISE: usize = 12_288;
 pub const LONGEST_OFFER: usize = 255;
 
 pub fn case(seed: u64, index: usize, large_every: usize) -> Case {
@@ -62,6 +71,10 @@ pub fn case(seed: u64, index: usize, large_every: usize) -> Case {
         16..=21 => valid_case(&mut rng, "tiny", Size::Tiny, false),
         22..=24 => valid_case(&mut rng, "medium", Size::Medium, false),
         25..=27 => valid_case(&mut rng, "deep", Size::Deep, false),
+        40..=41 => {
+            let (file, known) = pairfaults::file(&mut rng, (round * 2 + slot - 40) % FAULTS.len());
+            Case { known: Some(known), ..finish(&mut rng, "pair fault", file, false) }
+        }
         _ => {
             let (family, file) = damaged(seed, round, slot, &mut rng);
             finish(&mut rng, family, file, false)
@@ -73,10 +86,9 @@ pub fn case(seed: u64, index: usize, large_every: usize) -> Case {
 fn damaged(seed: u64, round: usize, slot: usize, rng: &mut Rng) -> (&'static str, Vec<u8>) {
     match slot {
         28..=35 => ("one fault", one_fault(seed, round * 8 + slot - 28, rng)),
-        36..=41 => {
+        36..=39 => {
             let size = rng.pick(&[Size::Tiny, Size::Small, Size::Deep, Size::Medium]);
-            let mut base = valid::file(rng, size, false);
-            users::name(rng, &mut base, false);
+            let base = anybodys(rng, size, false);
             let faults = rng.pick(&[1, 1, 1, 2, 2, 3]);
             ("faults", with_faults(rng, &base, faults))
         }
@@ -84,12 +96,19 @@ fn damaged(seed: u64, round: usize, slot: usize, rng: &mut Rng) -> (&'static str
         44..=45 => ("noise", noise(rng)),
         46 => ("header", bad_header(rng)),
         _ => {
-            let mut base = valid::file(rng, Size::Small, true);
-            users::name(rng, &mut base, false);
+            let base = anybodys(rng, Size::Small, true);
             let faults = usize::from(rng.percent(30));
             ("torn", with_faults(rng, &base, faults))
         }
     }
+}
+
+/// A valid file, or a torn one, of any version and with any user.
+fn anybodys(rng: &mut Rng, size: Size, torn: bool) -> File {
+    let version = valid::version(rng);
+    let mut file = valid::file(rng, size, version, torn);
+    users::name(rng, &mut file, false);
+    file
 }
 
 fn large(rng: &mut Rng) -> Case {
@@ -106,7 +125,14 @@ fn large(rng: &mut Rng) -> Case {
 /// A valid file with the steps it allows at the edge or away from it. One that
 /// is served mostly has all else fit too, so that it is answered.
 fn valid_case(rng: &mut Rng, family: &'static str, size: Size, served: bool) -> Case {
-    let mut file = valid::file(rng, size, false);
+    let version = valid::version(rng);
+    let size = match size {
+        Size::Tiny if version == VERSIONS && rng.percent(PAIRED) => Size::Paired,
+        Size::Small if version == VERSIONS && rng.percent(PAIRED) => Size::Joined,
+        size => size,
+    };
+    let mut file = valid::file(rng, size, version, false);
+    tell_apart(rng, &mut file);
     if served {
         serve(rng, &mut file);
     }
@@ -131,12 +157,13 @@ fn mode(rng: &mut Rng, right: usize, fits: bool) -> usize {
 }
 
 /// A base for damage done in order: the same for all cases of a span. Of each
-/// size both versions come in turn.
+/// size all versions come in turn.
 fn base(seed: u64, number: usize) -> (Rng, File) {
     let mut rng = Rng::new(!seed, number as u64);
     let size = if number % 4 == 3 { Size::Tiny } else { Size::Small };
-    let mut file = valid::file(&mut rng, size, false);
-    if (number / 4 + number) % 2 == 1 {
+    let version = 1 + (number / 4 + number) % VERSIONS;
+    let mut file = valid::file(&mut rng, size, version, false);
+    if version > 1 {
         users::name_allowed(&mut rng, &mut file);
     }
     (rng, file)
@@ -161,7 +188,7 @@ fn with_faults(rng: &mut Rng, file: &File, faults: usize) -> Vec<u8> {
     for _ in 0..faults {
         // By section first, or prices would crowd out all else; nodes often,
         // for they have most rules, the header seldom, for it hides the rest.
-        let section = &sections[rng.pick(&[0, 1, 1, 2, 2, 2, 3, 3, 3, 4, 4, 4, 4, 4, 5, 5])];
+        let section = &sections[rng.pick(&[0, 1, 1, 2, 2, 2, 3, 3, 3, 4, 4, 4, 4, 4, 5, 5, 6, 6])];
         if !section.is_empty() {
             section[rng.below(section.len())].apply(&mut bytes);
         }
@@ -184,12 +211,11 @@ fn cut(seed: u64, position: usize, rng: &mut Rng) -> Vec<u8> {
     bytes
 }
 
-/// A right file but for its header: cut at the end of either version's, where a
+/// A right file but for its header: cut at the end of some version's, where a
 /// count out of its limits tells 3 from 4, of a version that there is not, or with
 /// a user who is not there.
 fn bad_header(rng: &mut Rng) -> Vec<u8> {
-    let mut file = valid::file(rng, Size::Tiny, false);
-    users::name(rng, &mut file, false);
+    let mut file = anybodys(rng, Size::Tiny, false);
     let nobody = rng.pick(&[file.subjects, file.subjects, file.subjects + 1, 16, 128, 255]);
     let turn = rng.below(4);
     if turn == 3 {
@@ -201,7 +227,8 @@ fn bad_header(rng: &mut Rng) -> Vec<u8> {
             if rng.percent(50) {
                 bytes[rng.within(5, 8)] = rng.pick(&[0, 255]);
             }
-            bytes.truncate(rng.pick(&[14, 15, 15, 16]));
+            let whole = file.layout().relations;
+            bytes.truncate(rng.pick(&[whole - 1, whole - 1, whole, 14, 15]));
         }
         2 => {
             let version = rng.pick(&OTHER_VERSIONS) as u16;
@@ -219,13 +246,13 @@ fn bad_header(rng: &mut Rng) -> Vec<u8> {
 /// Bytes of no plan, from none right to all counts and the length right.
 fn noise(rng: &mut Rng) -> Vec<u8> {
     let length = match rng.below(10) {
-        0 => rng.within(0, LONGEST_TAKEN),
+        0 => rng.within(0, LONGEST_NOISE),
         1 => rng.within(0, 2),
-        2 | 3 => rng.within(0, 16),
+        2 | 3 => rng.within(0, 17),
         _ => rng.within(0, 300),
     };
     let mut bytes = rng.bytes(length);
-    let version = rng.within(1, 2);
+    let version = valid::version(rng);
     let start = [b'A', b'X', b'P', 0, version as u8];
     if rng.percent(40) {
         return counted_noise(rng, version, &start);
@@ -239,20 +266,24 @@ fn noise(rng: &mut Rng) -> Vec<u8> {
 
 fn counted_noise(rng: &mut Rng, version: usize, start: &[u8; 5]) -> Vec<u8> {
     let counts = Counts {
-        header: header_of(version as u64).expect("there is such a version"),
+        form: form_of(version as u64).expect("there is such a version"),
         subjects: rng.within(1, 16),
         relations: rng.within(1, 16),
         nodes: rng.within(1, 64),
         grants: rng.within(0, 20),
+        pairs: if version > 2 { rng.within(0, 20) } else { 0 },
     };
     let layout = Layout::of(&counts);
-    let Counts { subjects, relations, nodes, grants, .. } = counts;
+    let Counts { subjects, relations, nodes, grants, pairs, .. } = counts;
     let mut bytes = rng.bytes(layout.end);
     let counts = [subjects, relations, rng.within(1, 64), nodes, 0, grants];
     bytes[..5].copy_from_slice(start);
     bytes[5..11].copy_from_slice(&counts.map(|count| count as u8));
     // A user and an owner who are there let the noise reach the first set.
     bytes[USER_AT] = rng.below(subjects) as u8;
+    if version > 2 {
+        bytes[PAIRS_AT] = pairs as u8;
+    }
     bytes[layout.relations] = 0;
     bytes
 }
@@ -277,7 +308,7 @@ fn finish(rng: &mut Rng, family: &'static str, file: Vec<u8>, fits: bool) -> Cas
             [0, number].map(|number| Question { node: number, subject: number }).to_vec()
         }
     };
-    Case { family, file, offer, rooms, fill, asked, questions, bare }
+    Case { family, file, offer, rooms, fill, asked, questions, bare, known: None }
 }
 
 /// Every subject at each step or some, the leaves, and numbers that are not there:

@@ -53,6 +53,8 @@ unsafe extern "C" {
         g: usize,
         nodes: *const Node,
         n: usize,
+        pairs: *const u8,
+        p: usize,
         step_prices: *const u32,
         s: usize,
         link_prices: *const u32,
@@ -168,11 +170,12 @@ pub fn record(case: &Case) -> Record {
 
 pub fn write(order: &Order) -> Written {
     let Order { values, room: lent, bare, .. } = order;
-    let Values { header, relations, grants, nodes, step_prices, link_prices } = values;
+    let Values { header, relations, grants, nodes, pairs, step_prices, link_prices } = values;
     let mut out = Written::untouched(order);
     let (relations, r) = passed(*bare, relations);
     let (grants, g) = passed(*bare, grants);
     let (nodes, n) = passed(*bare, nodes);
+    let (pairs, p) = passed(*bare, pairs);
     let (steps, s) = passed(*bare, step_prices);
     let (links, l) = passed(*bare, link_prices);
     let start = room(*bare, *lent, &mut out.room);
@@ -180,7 +183,8 @@ pub fn write(order: &Order) -> Written {
     // SAFETY: slices with their lengths; the room is longer than what is lent of it.
     out.code = unsafe {
         tollburrow_write(
-            header, relations, r, grants, g, nodes, n, steps, s, links, l, start, *lent, written,
+            header, relations, r, grants, g, nodes, n, pairs, p, steps, s, links, l, start, *lent,
+            written,
         )
     };
     // SAFETY: a slice with its length.

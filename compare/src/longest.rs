@@ -13,7 +13,7 @@ const ROOMS: Rooms = Rooms { choice: 64, plan: 128, keys: 128 };
 /// A file of version 1 whose cheapest choice is answered.
 fn answered(seed: u64, index: usize) -> Vec<u8> {
     let mut rng = Rng::new(seed, index as u64);
-    let mut file = valid::file(&mut rng, Size::Longest, false);
+    let mut file = valid::file(&mut rng, Size::Longest, 1, false);
     serve(&mut rng, &mut file);
     file.write()
 }

@@ -1,11 +1,11 @@
-//! The sample night in both versions: its text and its figures as the rules print
+//! The sample night in all versions: its text and its figures as the rules print
 //! them.
 
-use crate::file::USER_AT;
+use crate::file::{UNUSED, USER_AT};
 use crate::planner::study;
 use crate::reading::refuse;
 use crate::text;
-use crate::values::Values;
+use crate::values::{Node, Values};
 use crate::why::{Question, verdicts};
 use crate::writer;
 
@@ -16,6 +16,8 @@ const WITH_USER: &str = "key 3 attributes 3 holders 0,2\n";
 /// The others, and the leaf that each may not have; the first number of nobody.
 const OTHER_USERS: [(u8, usize); 5] = [(0, 2), (1, 0), (3, 0), (4, 0), (5, 0)];
 const NOBODY: u8 = 6;
+/// The node that is a join.
+const JOIN: usize = 3;
 
 const TEXT: &str = "\
 total 14 steps 76
@@ -78,7 +80,36 @@ pub fn check_2(bytes: &[u8]) -> Result<(), String> {
     }
     other[USER_AT] = NOBODY;
     expect(&format!("user {NOBODY}"), &other, "refused 4 place 0\n")?;
+    check_3(bytes)?;
     figures(bytes)
+}
+
+/// The night of version 2 in version 3, its join kept as it is, and turned into one
+/// on the only pair of a list: both give the same text, for a join on one pair is
+/// kind 5.
+fn check_3(bytes: &[u8]) -> Result<(), String> {
+    let text = TEXT.replace(WITHOUT_USER, WITH_USER);
+    let mut values = Values::of(bytes).map_err(|refusal| format!("{refusal:?}"))?;
+    let kept = values.nodes[JOIN];
+    values.header.version = 3;
+    expect("version 3", &values.encode(), &text)?;
+    values.header.pairs = 1;
+    values.pairs = vec![kept.x, kept.y];
+    expect("version 3 with a pair", &values.encode(), &text)?;
+    let join = Node { kind: 9, x: UNUSED, y: UNUSED, count: 1, ..kept };
+    let mut with = |join: Node, version: u16| {
+        (values.nodes[JOIN], values.header.version) = (join, version);
+        values.encode()
+    };
+    let joined = with(join, 3);
+    expect("version 3, a join on a pair", &joined, &text)?;
+    expect("version 3, cut", &joined[..16], "refused 3 place 0\n")?;
+    written_again(&joined)?;
+    figures(&joined)?;
+    let half = Node { needed: 1 << kept.y, ..join };
+    expect("half a pair needed", &with(half, 3), "refused 10 place 3\n")?;
+    let past = Node { first: 1, ..join };
+    expect("a pair past the list", &with(past, 3), "refused 8 place 3\n")
 }
 
 /// The night's values give its bytes, if there is room for them all.

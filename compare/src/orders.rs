@@ -1,17 +1,17 @@
 //! Orders for the writer: the values of a case's file, left as they are, changed
 //! within the rules, or made wrong in one way or in two.
 
-use crate::file::{LONGEST_2, MOST_LINK_PRICE, MOST_STEP_PRICE};
+use crate::file::{LONGEST, MOST_LINK_PRICE, MOST_STEP_PRICE, VERSIONS};
 use crate::rng::Rng;
 use crate::users;
 use crate::valid::{self, Size};
 use crate::valuefaults::fault;
-use crate::values::{Header, LISTS, Values};
+use crate::values::{Header, LISTS, Node, PAIRS, Values, with_pairs};
 use crate::writer::Order;
 
 /// Versions that there are not, some of which would be if only one of the two
 /// bytes were read, or the two in the other order.
-pub const UNKNOWN_VERSIONS: [u16; 7] = [0, 3, 256, 257, 258, 512, 65_535];
+pub const UNKNOWN_VERSIONS: [u16; 9] = [0, 4, 256, 257, 258, 259, 512, 768, 65_535];
 /// From so many on a list has far too many.
 pub const FAR: usize = 100;
 
@@ -36,20 +36,33 @@ const WRONG: [Change; 8] =
 
 /// The values of a tiny file, for cases whose own file has none.
 pub fn tiny(rng: &mut Rng) -> Values {
-    let mut file = valid::file(rng, Size::Tiny, false);
+    let version = valid::version(rng);
+    let mut file = valid::file(rng, Size::Tiny, version, false);
     users::name(rng, &mut file, false);
     Values::of(&file.write()).expect("a valid file")
 }
 
 pub fn order(rng: &mut Rng, mut values: Values) -> Order {
-    if values.header.version == 1 {
-        let any = rng.next() as u8;
-        values.header.user = rng.pick(&[0, 16, 255, values.header.subjects, any]);
-    }
+    unwritten(rng, &mut values);
     change(rng, &mut values);
     // Where counts are beyond their limits, nothing is written anyway.
-    let room = room(rng, values.header.file_length().min(LONGEST_2));
+    let room = room(rng, values.header.file_length().min(LONGEST[VERSIONS - 1]));
     Order { values, room, fill: rng.next() as u8, bare: rng.pick(&[0, 0, 1, usize::MAX]) }
+}
+
+/// Any numbers for what the version does not write.
+fn unwritten(rng: &mut Rng, values: &mut Values) {
+    let header = &mut values.header;
+    let any = rng.next() as u8;
+    if header.version == 1 {
+        header.user = rng.pick(&[0, 16, 255, header.subjects, any]);
+    }
+    if !with_pairs(header.version) {
+        header.pairs = rng.pick(&[0, 1, 255, any]);
+        for node in &mut values.nodes {
+            (node.first, node.count) = rng.pick(&[(0, 0), (0, 1), (1, 0), (255, 255), (any, any)]);
+        }
+    }
 }
 
 fn change(rng: &mut Rng, values: &mut Values) {
@@ -79,24 +92,54 @@ fn room(rng: &mut Rng, length: usize) -> usize {
     }
 }
 
-/// In version 2 another user, or one who is not there; in version 1 any number
+/// From version 2 on another user, or one who is not there; in version 1 any number
 /// will do as it is.
 fn other_user(rng: &mut Rng, values: &mut Values) {
     let Header { version, subjects, user, .. } = values.header;
-    if version == 2 {
+    if version > 1 {
         let someone = rng.below(subjects.max(1).into()) as u8;
         let nobody = rng.pick(&[subjects, 16, user.wrapping_add(16), user | 128, 255]);
         values.header.user = if rng.percent(60) { someone } else { nobody };
     }
 }
 
-/// The other version: a user is named, or means nothing any more.
+/// Another version: what it adds is named, what it lacks means nothing any more.
 fn other_version(rng: &mut Rng, values: &mut Values) {
-    let header = &mut values.header;
-    if header.version == 1 {
-        header.user = rng.below(header.subjects.into()) as u8;
+    let (before, after) = (values.header.version, valid::version(rng) as u16);
+    values.header.version = after;
+    if before == 1 && after > 1 {
+        values.header.user = rng.below(values.header.subjects.into()) as u8;
     }
-    header.version = 3 - header.version;
+    match (with_pairs(before), with_pairs(after)) {
+        (false, true) => with_list(rng, values),
+        (true, false) => without_list(rng, values),
+        _ => {}
+    }
+}
+
+/// A list of pairs that no node names.
+fn with_list(rng: &mut Rng, values: &mut Values) {
+    let any = rng.next() as u8;
+    values.header.pairs = rng.pick(&[0, 1, 3, any, 255]);
+    values.pairs = rng.bytes(2 * usize::from(values.header.pairs));
+    values.nodes.iter_mut().for_each(|node| (node.first, node.count) = (0, 0));
+}
+
+/// No list any more: mostly each join on several pairs becomes one on its first
+/// pair, or else it is of no kind that there is.
+fn without_list(rng: &mut Rng, values: &mut Values) {
+    let joins = rng.percent(70);
+    for node in values.nodes.iter_mut().filter(|node| joins && node.kind == 9) {
+        let at = 2 * usize::from(node.first);
+        // What the list has no room for is left to be refused.
+        if let Some(&[x, y]) = values.pairs.get(at..at + 2).and_then(|pair| pair.first_chunk())
+            && x.max(y) < 64
+        {
+            (node.kind, node.x, node.y) = (5, x, y);
+            node.needed &= 1 << x | 1 << y;
+        }
+    }
+    values.pairs.clear();
 }
 
 /// Other steps allowed, and a price of each sort that may be.
@@ -117,6 +160,21 @@ fn other_numbers(rng: &mut Rng, values: &mut Values) {
     if from != to {
         values.link_prices[from * subjects + to] = price(rng, MOST_LINK_PRICE);
     }
+    other_unnamed(rng, values);
+}
+
+/// Other bytes for the pairs that no node names.
+fn other_unnamed(rng: &mut Rng, values: &mut Values) {
+    let Values { nodes, pairs, .. } = values;
+    for (index, pair) in pairs.chunks_mut(2).enumerate() {
+        let names = |node: &Node| {
+            let first = usize::from(node.first);
+            (first..first + usize::from(node.count)).contains(&index)
+        };
+        if !nodes.iter().any(names) {
+            pair.copy_from_slice(&rng.bytes(pair.len()));
+        }
+    }
 }
 
 fn unknown_version(rng: &mut Rng, values: &mut Values) {
@@ -133,19 +191,22 @@ fn resize(values: &mut Values, list: usize, length: usize) {
         0 => to(&mut values.relations, length),
         1 => to(&mut values.grants, length),
         2 => to(&mut values.nodes, length),
-        3 => to(&mut values.step_prices, length),
+        PAIRS => to(&mut values.pairs, length),
+        4 => to(&mut values.step_prices, length),
         _ => to(&mut values.link_prices, length),
     }
 }
 
 /// One list, seldom two, of a length that the counts do not say: also one that
-/// would be right if it were cut to 8 or 16 bits.
+/// would be right if it were cut to 8 or 16 bits, or counted in pairs.
 fn miscount(rng: &mut Rng, values: &mut Values) {
     for _ in 0..rng.pick(&[1, 1, 1, 1, 2]) {
         let list = rng.below(LISTS.len());
         let count = values.lengths()[list];
-        let far = [300, 300, 300, 5_000, 5_000][list];
+        let far = [300, 300, 300, 600, 5_000, 5_000][list];
+        let by_pairs = [count + 2, count.saturating_sub(2), count / 2, count / 2];
         let length = match rng.below(20) {
+            _ if list == PAIRS && rng.percent(40) => rng.pick(&by_pairs),
             0..=6 => count + 1,
             7..=12 => count.saturating_sub(1),
             13..=14 => 0,
@@ -158,10 +219,11 @@ fn miscount(rng: &mut Rng, values: &mut Values) {
 }
 
 /// Lists miscounted so that the file would have the right length all the same, and
-/// where it is prices that move, the right bytes.
+/// where it is prices or pairs that move, the right bytes.
 fn evened(rng: &mut Rng, values: &mut Values) {
-    let [relations, grants, nodes, steps, links] = values.lengths();
-    match rng.below(8) {
+    let [relations, grants, nodes, pairs, steps, links] = values.lengths();
+    let listed = with_pairs(values.header.version);
+    match rng.below(10) {
         0 if relations > 2 => {
             resize(values, 0, relations - 2);
             resize(values, 1, grants + 1);
@@ -170,18 +232,27 @@ fn evened(rng: &mut Rng, values: &mut Values) {
             resize(values, 0, relations + 2);
             resize(values, 1, grants - 1);
         }
+        2 if nodes > 1 && !listed => {
+            resize(values, 2, nodes - 1);
+            resize(values, 4, steps + 7);
+        }
         2 if nodes > 1 => {
             resize(values, 2, nodes - 1);
-            resize(values, 3, steps + 7);
+            resize(values, PAIRS, pairs + 30);
         }
-        3 if links >= 7 => {
+        3 if links >= 7 && !listed => {
             resize(values, 2, nodes + 1);
-            resize(values, 4, links - 7);
+            resize(values, 5, links - 7);
         }
         4 | 5 if links > 0 => {
             values.step_prices.push(values.link_prices[0]);
             values.link_prices.remove(0);
         }
+        6 if pairs >= 4 => {
+            let last = values.pairs.split_off(pairs - 4);
+            values.step_prices.insert(0, last.iter().fold(0, |sum, &b| sum << 8 | u32::from(b)));
+        }
+        7 if steps > 0 => values.pairs.extend(values.step_prices.remove(0).to_be_bytes()),
         _ => values.link_prices.splice(..0, values.step_prices.pop()).for_each(drop),
     }
 }
@@ -192,7 +263,8 @@ fn miscounted_header(rng: &mut Rng, values: &mut Values) {
         rng.pick(&[0, 16, 17, 64, 65, 255, count.wrapping_sub(1), count.wrapping_add(1)])
     };
     let header = &mut values.header;
-    match rng.below(5) {
+    match rng.below(6) {
+        5 if with_pairs(header.version) => header.pairs = odd(rng, header.pairs),
         0 => header.subjects = odd(rng, header.subjects),
         1 => header.relations = odd(rng, header.relations),
         2 => header.attributes = odd(rng, header.attributes),

@@ -31,6 +31,7 @@ pub struct Key {
     pub holders: Vec<usize>,
 }
 
+#[derive(PartialEq, Debug)]
 pub struct Answer {
     pub choice: Vec<usize>,
     pub keys: Vec<Key>,

@@ -1,6 +1,7 @@
 //! The program `plan`: started once for each of some cases, its whole text
 //! compared.
 
+use crate::file::VERSIONS;
 use crate::planner::{Study, study};
 use crate::program::printed;
 use crate::reading::Refusal;
@@ -9,15 +10,15 @@ use crate::text;
 
 /// So many answered files of each version, so many that have many nodes, and so
 /// many of each refusal.
-const OF_ANSWERED: usize = 40;
-const OF_MANY: usize = 10;
+const OF_ANSWERED: usize = 28;
+const OF_MANY: usize = 8;
 const OF_REFUSAL: usize = 16;
 const REFUSALS: [u64; 14] = [1, 2, 3, 4, 5, 6, 7, 8, 9, 10, 11, 12, 13, 17];
 
 /// The sorts, those of answers first: by the version, then those of many nodes.
 pub fn starts() -> Starts {
     let answered = |(which, wanted): (String, usize)| {
-        [1, 2].map(|version| {
+        (1..=VERSIONS).map(move |version| {
             (format!("answered files of version {version}{which} through plan"), wanted)
         })
     };
@@ -33,11 +34,11 @@ pub fn sort(study: &Result<Study, Refusal>) -> usize {
     match searched {
         Ok((study, _)) => {
             let many = study.file.nodes.len() >= MANY_NODES;
-            study.file.version() - 1 + 2 * usize::from(many)
+            study.file.version() - 1 + VERSIONS * usize::from(many)
         }
         Err(refusal) => {
             let place = REFUSALS.iter().position(|&number| number == refusal.number);
-            4 + place.expect("the search is refused with one of these")
+            2 * VERSIONS + place.expect("the search is refused with one of these")
         }
     }
 }

@@ -28,6 +28,7 @@ pub struct Header {
     attributes: usize,
     allowed: u32,
     user: Option<usize>,
+    with_pairs: bool,
 }
 
 /// The version as it stands, if the mark stands before it.
@@ -40,19 +41,20 @@ pub fn version(bytes: &[u8]) -> Result<u64, Refusal> {
 
 fn header(bytes: &[u8]) -> Result<Header, Refusal> {
     let version = version(bytes)?;
-    let Some(length) = header_of(version) else { return refuse(2, 0) };
-    if bytes.len() < length {
+    let Some(form) = form_of(version) else { return refuse(2, 0) };
+    if bytes.len() < form.header {
         return refuse(3, 0);
     }
     let counts = Counts {
-        header: length,
+        form,
         subjects: bytes[5].into(),
         relations: bytes[6].into(),
         nodes: bytes[8].into(),
         grants: number(bytes, 9, 2) as usize,
+        pairs: if version >= 3 { bytes[PAIRS_AT].into() } else { 0 },
     };
     let attributes = bytes[7].into();
-    let user = (version == 2).then(|| bytes[USER_AT].into());
+    let user = (version >= 2).then(|| bytes[USER_AT].into());
     let within = (1..=16).contains(&counts.subjects)
         && (1..=16).contains(&counts.relations)
         && (1..=64).contains(&attributes)
@@ -60,7 +62,8 @@ fn header(bytes: &[u8]) -> Result<Header, Refusal> {
         && counts.grants <= 272
         && user.is_none_or(|user| user < counts.subjects);
     let allowed = number(bytes, 11, 4) as u32;
-    if within { Ok(Header { counts, attributes, allowed, user }) } else { refuse(4, 0) }
+    let header = Header { counts, attributes, allowed, user, with_pairs: version >= 3 };
+    if within { Ok(header) } else { refuse(4, 0) }
 }
 
 fn relations(bytes: &[u8], at: usize, header: &Header) -> Result<Vec<Relation>, Refusal> {
@@ -134,27 +137,33 @@ struct Record {
     set: Flags,
     needed: Flags,
     size: u64,
+    /// The first pair's number and the count, where the version has them.
+    named: Option<[u8; 2]>,
 }
 
 impl Record {
-    fn at(bytes: &[u8], at: usize) -> Record {
+    /// From the bytes of one record.
+    fn of(bytes: &[u8]) -> Record {
         Record {
-            kind: bytes[at],
-            left: bytes[at + 1],
-            right: bytes[at + 2],
-            x: bytes[at + 3],
-            y: bytes[at + 4],
-            spare: number(bytes, at + 5, 3),
-            set: set_at(bytes, at + 8),
-            needed: set_at(bytes, at + 16),
-            size: number(bytes, at + 24, 4),
+            kind: bytes[0],
+            left: bytes[1],
+            right: bytes[2],
+            x: bytes[3],
+            y: bytes[4],
+            spare: number(bytes, 5, 3),
+            set: set_at(bytes, 8),
+            needed: set_at(bytes, 16),
+            size: number(bytes, 24, 4),
+            named: bytes[NAMED_AT..].first_chunk().copied(),
         }
     }
 
-    /// Which of left, right, x, y and set the kind uses.
-    fn uses(&self) -> Option<[bool; 5]> {
-        const TABLE: [&str; 9] =
-            ["--x-s", "l---s", "l-x--", "l-xy-", "lr---", "lrxy-", "l-x-s", "l---s", "l-x-s"];
+    /// Which of left, right, x, y, set and pairs the kind uses.
+    fn uses(&self) -> Option<[bool; 6]> {
+        const TABLE: [&str; 10] = [
+            "--x-s-", "l---s-", "l-x---", "l-xy--", "lr----", "lrxy--", "l-x-s-", "l---s-",
+            "l-x-s-", "lr---p",
+        ];
         let row = TABLE.get(usize::from(self.kind))?.as_bytes();
         Some(std::array::from_fn(|i| row[i] != b'-'))
     }
@@ -163,6 +172,7 @@ impl Record {
 /// What the nodes read so far have brought.
 struct Nodes<'a> {
     relations: &'a [Relation],
+    list: &'a [[u8; 2]],
     nodes: Vec<Node>,
     visible: Vec<Flags>,
     has_parent: Vec<bool>,
@@ -182,7 +192,23 @@ impl Nodes<'_> {
         };
         let children_right = (0..2).all(|i| !uses[i] || free(fields[i]))
             && !(uses[1] && record.left == record.right);
-        unused_left_alone && children_right && record.spare == 0 && record.size <= MOST_SIZE
+        unused_left_alone
+            && children_right
+            && record.spare == 0
+            && record.size <= MOST_SIZE
+            && self.names_right(record.named, uses[5])
+    }
+
+    /// Whether pairs of the list are named by a kind that uses them, and by no other.
+    /// A version without pairs has no such kind.
+    fn names_right(&self, named: Option<[u8; 2]>, uses: bool) -> bool {
+        match named.map(|named| named.map(usize::from)) {
+            None => !uses,
+            Some([first, count]) if uses => {
+                (1..=MOST_JOINED).contains(&count) && first + count <= self.list.len()
+            }
+            Some(named) => named == [0, 0],
+        }
     }
 
     fn leaf(&self, record: &Record) -> Option<Work> {
@@ -192,6 +218,18 @@ impl Nodes<'_> {
             && !record.set.is_empty()
             && record.set.within(&source.set);
         right.then_some(Work::Leaf { relation, set: record.set })
+    }
+
+    /// Each pair's attributes are visible on their own sides.
+    fn join_pairs(&self, record: &Record) -> Option<Work> {
+        let [left, right] = [record.left, record.right].map(usize::from);
+        let [first, count] = record.named?.map(usize::from);
+        let seen = |pair: &[u8; 2]| {
+            let [x, y] = pair.map(usize::from);
+            (self.visible[left].has(x) && self.visible[right].has(y)).then_some((x, y))
+        };
+        let pairs = self.list[first..first + count].iter().map(seen).collect::<Option<_>>()?;
+        Some(Work::JoinPairs { left, right, first, pairs })
     }
 
     /// Rule 9 for a well-shaped record: the work it stands for, if any.
@@ -216,6 +254,7 @@ impl Nodes<'_> {
             5 => Work::Join { left, right, x: x?, y: seen(record.y, right)? },
             6 => Work::Aggregate { from, set: set?, x: x.filter(|&x| !record.set.has(x))? },
             7 => Work::Count { from, set: full? },
+            9 => self.join_pairs(record)?,
             _ => Work::Function { from, set: full?, x: x.filter(|&x| record.set.has(x))? },
         })
     }
@@ -227,8 +266,8 @@ impl Nodes<'_> {
         }
         let Some(work) = self.work(record) else { return refuse(9, index) };
         let (reads, needed) = (work.reads(), record.needed);
-        let half = work.reads_together() && !needed.is_empty() && needed != reads;
-        if !needed.within(&reads) || half {
+        let half = |set: &Flags| needed.meets(set) && !set.within(&needed);
+        if !needed.within(&reads) || work.together().iter().any(half) {
             return refuse(10, index);
         }
         let mut before = Flags::NONE;
@@ -247,19 +286,22 @@ impl Nodes<'_> {
 
 fn nodes(
     bytes: &[u8],
-    at: usize,
-    count: usize,
+    layout: &Layout,
+    list: &[[u8; 2]],
     relations: &[Relation],
 ) -> Result<Vec<Node>, Refusal> {
+    let records = bytes[layout.nodes..layout.pairs].chunks(layout.node);
+    let count = records.len();
     let mut read = Nodes {
         relations,
+        list,
         nodes: Vec::new(),
         visible: Vec::new(),
         has_parent: vec![false; WIDTH],
         relation_taken: vec![false; relations.len()],
     };
-    for index in 0..count {
-        read.take(&Record::at(bytes, at + NODE * index))?;
+    for record in records {
+        read.take(&Record::of(record))?;
     }
     match (0..count - 1).find(|&node| !read.has_parent[node]) {
         Some(orphan) => refuse(8, orphan),
@@ -305,7 +347,8 @@ pub fn read(bytes: &[u8]) -> Result<File, Refusal> {
     let relations = relations(bytes, layout.relations, &header)?;
     let grants = grants(bytes, layout.grants, counts, &relations)?;
     owners_see_all(&relations, &grants)?;
-    let nodes = nodes(bytes, layout.nodes, counts.nodes, &relations)?;
+    let list = bytes[layout.pairs..layout.step_prices].as_chunks().0;
+    let nodes = nodes(bytes, &layout, list, &relations)?;
     // Where 0 is fixed, the most that a price may be is 0.
     let most_step = |node: &Node| if node.work.is_leaf() { 0 } else { MOST_STEP_PRICE };
     let step_limits: Vec<Vec<u64>> =
@@ -318,6 +361,7 @@ pub fn read(bytes: &[u8]) -> Result<File, Refusal> {
     let link_prices = prices(bytes, layout.link_prices, first_link, &link_limits)?;
     Ok(File {
         user: header.user,
+        pairs: header.with_pairs.then(|| list.to_vec()),
         subjects,
         attributes: header.attributes,
         allowed: header.allowed,

@@ -2,6 +2,7 @@
 //! standard input, at times the room that it lends as a word; all that it prints
 //! is compared.
 
+use crate::file::VERSIONS;
 use crate::generate::Case;
 use crate::planner::Study;
 use crate::program::printed_bytes;
@@ -13,9 +14,9 @@ use crate::writer::verdict;
 
 /// So many files of each version without a word, so many that have many nodes, so
 /// many with each room, and so many of each refusal, also where 15 would be next.
-const OF_PLAIN: usize = 16;
-const OF_MANY: usize = 5;
-const OF_ROOM: usize = 6;
+const OF_PLAIN: usize = 11;
+const OF_MANY: usize = 4;
+const OF_ROOM: usize = 4;
 const OF_REFUSAL: usize = 6;
 const OF_REFUSAL_SHORT: usize = 4;
 /// The rooms that are lent.
@@ -38,12 +39,12 @@ pub fn starts() -> Starts {
         (1..=11).map(move |number| (format!("starts of rewrite, refusal {number}{with}"), wanted))
     };
     let refused = [("", OF_REFUSAL), (" in short room", OF_REFUSAL_SHORT)].into_iter().map(refused);
-    Starts::of([1, 2].into_iter().flat_map(of_version).chain(refused.flatten()).collect())
+    Starts::of((1..=VERSIONS).flat_map(of_version).chain(refused.flatten()).collect())
 }
 
 /// The sorts for which starts on a case's file count, each with the room that is
-/// lent: those of version 1, of version 2, of refusals 1 to 11, and of these with
-/// room too short, in either way by turns.
+/// lent: those of each version, of refusals 1 to 11, and of these with room too
+/// short, in either way by turns.
 pub fn sorts(
     study: &Result<Study, Refusal>,
     index: usize,
@@ -59,7 +60,7 @@ pub fn sorts(
             [(first + usize::from(many), None)].into_iter().chain(with_room).collect()
         }
         Err(refusal) => {
-            let plain = 2 * OF_VERSION + refusal.number as usize - 1;
+            let plain = VERSIONS * OF_VERSION + refusal.number as usize - 1;
             vec![(plain, None), (plain + 11, rooms[1 + index % 2])]
         }
     }

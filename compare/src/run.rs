@@ -56,13 +56,16 @@ impl Table {
     }
 }
 
-/// The ties that a step's past holds: of the kinds that read together.
-fn tie_of(work: &Work) -> Option<Flags> {
-    match *work {
+/// The ties that a step's past holds: of the kinds that read together, and of each
+/// pair of a join on several. Without a list made for each call: runs are many.
+fn ties_of(work: &Work) -> impl Iterator<Item = Flags> {
+    let one = match *work {
         Work::SelectPair { x, y, .. } | Work::Join { x, y, .. } => Some(Flags::of(&[x, y])),
         Work::Function { set, .. } => Some(set),
         _ => None,
-    }
+    };
+    let pairs = if let Work::JoinPairs { pairs, .. } = work { &pairs[..] } else { &[] };
+    one.into_iter().chain(pairs.iter().map(|&(x, y)| Flags::of(&[x, y])))
 }
 
 /// Attributes linked to `start` by a chain of ties, itself among them.
@@ -143,7 +146,7 @@ fn handed_sealed(file: &File, plan: &Plan) -> Flags {
 /// the user, if there is one, the delivery is one opening more.
 pub fn keys(file: &File, choice: &[usize], plan: &Plan) -> Vec<Key> {
     let delivery = file.user.map(|user| (user, handed_sealed(file, plan)));
-    let ties: Vec<Flags> = file.nodes.iter().filter_map(|node| tie_of(&node.work)).collect();
+    let ties: Vec<Flags> = file.nodes.iter().flat_map(|node| ties_of(&node.work)).collect();
     let sealed: Vec<usize> =
         (0..file.attributes).filter(|&a| plan.seals.iter().any(|seals| seals.has(a))).collect();
     let mut keys: Vec<Key> = Vec::new();
@@ -200,7 +203,7 @@ impl Run<'_> {
         if needed.list().iter().any(|&a| table.form(a) != Some(Form::Clear)) {
             return Err(Fault::Stuck(node));
         }
-        if let Some(tie) = tie_of(work) {
+        for tie in ties_of(work) {
             let members = tie.list();
             let form = table.form(members[0]);
             if members.iter().any(|&a| table.form(a) != form) {

@@ -1,7 +1,9 @@
 //! A second writer, which plays the library where none is linked: every field is
 //! put at its place in the file, and all refusals but two are the reader's.
 
-use crate::file::{Counts, GRANT, Layout, NODE, RELATION, USER_AT, header_of};
+use crate::file::{
+    Counts, GRANT, Layout, NAMED_AT, PAIRS_AT, RELATION, USER_AT, VERSIONS, form_of,
+};
 use crate::reading::{Refusal, read, refuse};
 use crate::record::code;
 use crate::values::{Grant, Header, Node, Relation, Values};
@@ -30,8 +32,11 @@ fn put_header(bytes: &mut [u8], header: &Header) {
         (15, 4, header.steps.into()),
     ];
     put(bytes, 0, &fields);
-    if header.version == 2 {
+    if header.version > 1 {
         bytes[USER_AT] = header.user;
+    }
+    if header.version > 2 {
+        bytes[PAIRS_AT] = header.pairs;
     }
 }
 
@@ -74,8 +79,13 @@ fn by_place(values: &Values, layout: &Layout) -> Vec<u8> {
         put(&mut bytes, layout.grants + GRANT * index, &grant(value));
     }
     for (index, value) in values.nodes.iter().enumerate() {
-        put(&mut bytes, layout.nodes + NODE * index, &node(value));
+        put(&mut bytes, layout.node_at(index), &node(value));
+        if layout.node > NAMED_AT {
+            let (first, count) = (value.first.into(), value.count.into());
+            put(&mut bytes, layout.node_at(index) + NAMED_AT, &[(1, 1, first), (2, 1, count)]);
+        }
     }
+    bytes[layout.pairs..layout.step_prices].copy_from_slice(&values.pairs);
     for (start, prices) in
         [(layout.step_prices, &values.step_prices), (layout.link_prices, &values.link_prices)]
     {
@@ -87,19 +97,21 @@ fn by_place(values: &Values, layout: &Layout) -> Vec<u8> {
 }
 
 fn as_many(values: &Values, counts: &Counts) -> bool {
-    let &Counts { subjects, relations, grants, nodes, .. } = counts;
+    let &Counts { subjects, relations, grants, nodes, pairs, .. } = counts;
     values.relations.len() == relations
         && values.grants.len() == grants
         && values.nodes.len() == nodes
+        && values.pairs.len() == 2 * pairs
         && values.step_prices.len() == nodes * subjects
         && values.link_prices.len() == subjects * subjects
 }
 
 fn file(values: &Values) -> Result<Vec<u8>, Refusal> {
     let header = &values.header;
-    let length = header_of(header.version.into());
+    // One of a version that there is not is refused for it, however long it is.
+    let form = form_of(header.version.into()).or(form_of(VERSIONS as u64)).expect("the last one");
     // The header alone is a file cut short: 3 is what it brings if all is right.
-    let mut start = vec![0; length.unwrap_or(USER_AT)];
+    let mut start = vec![0; form.header];
     put_header(&mut start, header);
     match read(&start) {
         Err(Refusal { number: 3, .. }) => {}
@@ -107,11 +119,12 @@ fn file(values: &Values) -> Result<Vec<u8>, Refusal> {
         Ok(_) => unreachable!("there is a relation in every file"),
     }
     let counts = Counts {
-        header: start.len(),
+        form,
         subjects: header.subjects.into(),
         relations: header.relations.into(),
         grants: header.grants.into(),
         nodes: header.nodes.into(),
+        pairs: if form.node > NAMED_AT { header.pairs.into() } else { 0 },
     };
     if as_many(values, &counts) { Ok(by_place(values, &Layout::of(&counts))) } else { refuse(3, 0) }
 }

@@ -2,7 +2,7 @@
 //! the inputs that all are started on.
 
 use crate::coverage::{Line, line};
-use crate::file::{LONGEST_1, LONGEST_2};
+use crate::file::LONGEST;
 use crate::program::{Said, ask};
 use crate::rng::Rng;
 use crate::served::serve;
@@ -90,20 +90,20 @@ pub fn compare_lengths(
     compare: impl Fn(&[u8]) -> Result<(), String>,
 ) -> Result<(), String> {
     let mut rng = Rng::new(seed, u64::MAX);
-    let mut file = valid::file(&mut rng, Size::Longest, false);
-    serve(&mut rng, &mut file);
-    let first = file.write();
-    users::name_allowed(&mut rng, &mut file);
-    let second = file.write();
-    let first_at = [LONGEST_1, LONGEST_1 + 1, LONGEST_1 + 2, 0].map(|length| (&first, length));
-    let second_at = [LONGEST_2, LONGEST_2 + 1, 3 * LONGEST_2].map(|length| (&second, length));
-    for (longest, length) in first_at.into_iter().chain(second_at) {
-        let mut bytes = longest.clone();
-        bytes.resize(length, 0);
-        let version = longest[4];
-        compare(&bytes).map_err(|text| {
-            format!("the longest file of version {version} at {length} bytes\n{text}")
-        })?;
+    for (version, most) in (1..).zip(LONGEST) {
+        let mut file = valid::file(&mut rng, Size::Longest, version, false);
+        serve(&mut rng, &mut file);
+        if version > 1 {
+            users::name_allowed(&mut rng, &mut file);
+        }
+        let longest = file.write();
+        for length in [most, most + 1, most + 2, 3 * most, 0] {
+            let mut bytes = longest.clone();
+            bytes.resize(length, 0);
+            compare(&bytes).map_err(|text| {
+                format!("the longest file of version {version} at {length} bytes\n{text}")
+            })?;
+        }
     }
     Ok(())
 }

@@ -1,24 +1,26 @@
-//! What the cases have touched of users: headers of version 2, refusal 17 and
+//! What the cases have touched of versions and users: headers, refusal 17 and
 //! deliveries.
 
 use crate::coverage::{LONG_NODES, Line, count, line};
 use crate::damage::OTHER_VERSIONS;
-use crate::file::USER_AT;
+use crate::file::{USER_AT, VERSIONS, form_of};
 use crate::generate::Case;
 use crate::planner::{Answer, Study};
 use crate::reading::{read, version};
 use crate::userslips;
 
-/// The floor for each of the versions that there are not.
-const LEAST_OF_VERSION: usize = 100;
+/// The floor for each version, and for each of those that there are not.
+const LEAST_READABLE: usize = 19_000;
+const LEAST_OF_VERSION: usize = 55;
 /// Floors for the slips, in the order of their names.
 const LEAST_SHOWN: [usize; userslips::NAMES.len()] =
-    [26_000, 11_300, 3_600, 2_100, 1_800, 120, 300, 1_600, 5_700, 2_500, 3_350, 500, 13_000, 8_200];
+    [36_500, 23_000, 5_350, 3_150, 2_350, 140, 700, 2_600, 9_350, 4_800, 5_000, 880, 8_900, 5_600];
 
 /// What is counted of headers that are refused.
 #[derive(Default)]
 struct Headers {
-    short: usize,
+    /// By the version, from 2 on.
+    short: [usize; VERSIONS - 1],
     short_with_bad_count: usize,
     user_alone: usize,
     user_first_past: usize,
@@ -37,7 +39,7 @@ struct Barred {
     short_room: usize,
 }
 
-/// What is counted of answers in version 2, of both calls.
+/// What is counted of answers to a user, of both calls.
 #[derive(Default)]
 struct Delivered {
     cheapest: usize,
@@ -51,7 +53,7 @@ struct Delivered {
 
 #[derive(Default)]
 pub struct Users {
-    readable: [usize; 2],
+    readable: [usize; VERSIONS],
     headers: Headers,
     barred: Barred,
     delivered: Delivered,
@@ -78,35 +80,30 @@ impl Headers {
         for (counted, other) in self.other_versions.iter_mut().zip(OTHER_VERSIONS) {
             *counted += count(version == other);
         }
-        if version != 2 || file.len() < USER_AT {
-            return;
+        let Some(form) = form_of(version).filter(|_| version > 1) else { return };
+        if file.len() + 1 == form.header {
+            self.short[version as usize - 2] += 1;
+            self.short_with_bad_count += count(!counts_fit(file));
         }
-        let fit = counts_fit(file);
-        match file.get(USER_AT) {
-            None => {
-                self.short += 1;
-                self.short_with_bad_count += count(!fit);
-            }
-            Some(&user) if fit && user >= file[5] => {
-                self.user_alone += 1;
-                self.user_first_past += count(user == file[5]);
-                self.user_and_length += count(too_long_or_short(file));
-            }
-            Some(_) => {}
+        if file.len() >= form.header && counts_fit(file) && file[USER_AT] >= file[5] {
+            self.user_alone += 1;
+            self.user_first_past += count(file[USER_AT] == file[5]);
+            self.user_and_length += count(too_long_or_short(file));
         }
     }
 
     fn lines(&self) -> Vec<Line> {
         let mut lines = vec![
-            line("headers of version 2 with 15 bytes", self.short, 200),
-            line("headers so short, a count out of its limits", self.short_with_bad_count, 90),
+            line("headers of version 2 with 15 bytes", self.short[0], 130),
+            line("headers of version 3 with 16 bytes", self.short[1], 360),
+            line("headers so short, a count out of its limits", self.short_with_bad_count, 240),
             line("headers refused for the user alone", self.user_alone, 540),
             line(
                 "headers so refused, the user's number is that of subjects",
                 self.user_first_past,
-                170,
+                140,
             ),
-            line("headers so refused, the length wrong too", self.user_and_length, 200),
+            line("headers so refused, the length wrong too", self.user_and_length, 180),
         ];
         let versions = OTHER_VERSIONS.iter().zip(self.other_versions);
         lines.extend(versions.map(|(version, counted)| {
@@ -131,12 +128,12 @@ impl Barred {
 
     fn lines(&self) -> [Line; 6] {
         [
-            line("refusals 17 at a leaf that is not the first", self.later_leaf, 600),
-            line("refusals 17, several such leaves", self.several_leaves, 300),
-            line("refusals 17, a step without a candidate too", self.without_candidate, 320),
-            line("refusals 17, more steps than allowed too", self.steps_exceed, 700),
-            line("refusals 17, a bad offer too", self.bad_offer, 1_600),
-            line("refusals 17, room too short too", self.short_room, 950),
+            line("refusals 17 at a leaf that is not the first", self.later_leaf, 1_400),
+            line("refusals 17, several such leaves", self.several_leaves, 700),
+            line("refusals 17, a step without a candidate too", self.without_candidate, 700),
+            line("refusals 17, more steps than allowed too", self.steps_exceed, 990),
+            line("refusals 17, a bad offer too", self.bad_offer, 2_500),
+            line("refusals 17, room too short too", self.short_room, 1_350),
         ]
     }
 }
@@ -156,13 +153,13 @@ impl Delivered {
 
     fn lines(&self) -> [Line; 7] {
         [
-            line("cheapest answered in version 2", self.cheapest, 15_000),
-            line("offers accepted in version 2", self.offered, 14_300),
-            line("answers in version 2, the user a holder by the delivery alone", self.seen, 8_600),
-            line("answers in version 2, the user ran the root", self.user_ran_root, 15_500),
-            line("answers in version 2, a step's table delivered all clear", self.all_clear, 3_800),
-            line("answers in version 2 to a leaf alone", self.leaf_alone, 3_300),
-            line("answers in version 2 for 20 nodes or more", self.long, 1_880),
+            line("cheapest answered to a user", self.cheapest, 19_500),
+            line("offers accepted from a user", self.offered, 18_500),
+            line("answers to a user, the user a holder by the delivery alone", self.seen, 14_000),
+            line("answers to a user, the user ran the root", self.user_ran_root, 21_000),
+            line("answers to a user, a step's table delivered all clear", self.all_clear, 4_450),
+            line("answers to a user, a leaf alone", self.leaf_alone, 3_200),
+            line("answers to a user, 20 nodes or more", self.long, 2_650),
         ]
     }
 }
@@ -187,10 +184,12 @@ impl Users {
     }
 
     pub fn lines(&self) -> Vec<Line> {
-        let mut lines = vec![
-            line("readable files of version 1", self.readable[0], 29_500),
-            line("readable files of version 2", self.readable[1], 29_500),
-        ];
+        let readable = (1..).zip(self.readable);
+        let mut lines: Vec<Line> = readable
+            .map(|(version, n)| {
+                line(&format!("readable files of version {version}"), n, LEAST_READABLE)
+            })
+            .collect();
         lines.extend(self.headers.lines());
         lines.extend(self.barred.lines());
         lines.extend(self.delivered.lines());

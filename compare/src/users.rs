@@ -6,10 +6,10 @@ use crate::rng::Rng;
 use crate::sets::Flags;
 use crate::views::{self, View};
 
-/// Leaves a file in version 1 or names a user in it, each as often. A user may
-/// mostly have every leaf's table, and surely so where all is to fit.
+/// Names another user, if the file has one: mostly one who may have every leaf's
+/// table, and surely so where all is to fit.
 pub fn name(rng: &mut Rng, file: &mut File, fits: bool) {
-    if rng.percent(50) {
+    if file.user.is_none() {
         return;
     }
     match rng.below(if fits { 16 } else { 20 }) {

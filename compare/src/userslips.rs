@@ -6,8 +6,8 @@ use crate::planner::{Answer, Study};
 use crate::sets::Flags;
 use crate::views::may_have;
 
-/// Those that files of version 2 show, then those that files of version 1 do.
-pub const NAMES: [&str; OF_2 + OF_1] = [
+/// Those that files with a user show, then those that files of version 1 do.
+pub const NAMES: [&str; OF_USER + OF_1] = [
     "the user read from the byte before",
     "the user read from the byte after",
     "17 left out",
@@ -23,7 +23,7 @@ pub const NAMES: [&str; OF_2 + OF_1] = [
     "17 asked of subject 0 in version 1",
     "a delivery to subject 0 in version 1",
 ];
-const OF_2: usize = 12;
+const OF_USER: usize = 12;
 const OF_1: usize = 2;
 
 /// A file that was read, and the answers that it brought.
@@ -41,12 +41,12 @@ pub fn shown(bytes: &[u8], study: &Study, answers: &[&Answer]) -> [bool; NAMES.l
             let beside = [bytes[USER_AT - 1], bytes[USER_AT + 1]];
             shown[..2].copy_from_slice(&beside.map(|other| brought.shows_user(user, other)));
             shown[2..8].copy_from_slice(&shown_by_refusal(study, user));
-            shown[8..OF_2].copy_from_slice(&brought.shown_by_holders(user));
+            shown[8..OF_USER].copy_from_slice(&brought.shown_by_holders(user));
         }
         None => {
             let delivered = |answer: &&Answer| handed_to(study, answer, 0);
-            shown[OF_2] = !study.barred_leaves(0).is_empty();
-            shown[OF_2 + 1] = answers.iter().any(delivered);
+            shown[OF_USER] = !study.barred_leaves(0).is_empty();
+            shown[OF_USER + 1] = answers.iter().any(delivered);
         }
     }
     shown

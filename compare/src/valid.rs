@@ -1,6 +1,7 @@
 //! Valid files, made as the rules' own terms and then written.
 
 use crate::file::*;
+use crate::pairs;
 use crate::rng::Rng;
 use crate::sets::Flags;
 
@@ -8,7 +9,11 @@ use crate::sets::Flags;
 pub enum Size {
     /// Few enough nodes and attributes for every plan to be tried.
     Tiny,
+    /// Likewise, with a join of two leaves, wide enough for two pairs on their own.
+    Paired,
     Small,
+    /// Likewise, with joins of all relations, wide enough for several pairs.
+    Joined,
     /// Few attributes in many steps, so that each is tested, tied and dropped.
     Deep,
     /// Enough subjects and steps for many choices, at prices that make equals.
@@ -28,11 +33,15 @@ struct Shape {
     attributes: usize,
     nodes: usize,
     leaves: usize,
+    /// Whether attributes are dealt to the relations in turn.
+    dealt: bool,
 }
 
 fn shape(rng: &mut Rng, size: Size) -> Shape {
     let (subjects, most_relations, most_attributes, nodes) = match size {
         Size::Tiny => ((1, 3), 2, 3, (1, 5)),
+        Size::Paired => return paired(rng),
+        Size::Joined => return joined(rng),
         Size::Small => ((1, 5), 4, 9, (1, 10)),
         Size::Deep => ((3, 12), 2, 4, (1, 9)),
         Size::Even => ((4, 8), 3, 8, (5, 12)),
@@ -49,7 +58,23 @@ fn shape(rng: &mut Rng, size: Size) -> Shape {
     let attributes = up_to(relations, most_attributes);
     let nodes = up_to(nodes.0, nodes.1);
     let leaves = up_to(1, relations.min(nodes.div_ceil(2)));
-    Shape { subjects, relations, attributes, nodes, leaves }
+    Shape { subjects, relations, attributes, nodes, leaves, dealt: false }
+}
+
+/// Each step more than the join multiplies the plans, so that few can have one.
+fn paired(rng: &mut Rng) -> Shape {
+    let nodes = rng.pick(&[3, 3, 3, 3, 4]);
+    let attributes = if nodes == 3 { rng.pick(&[3, 4, 4, 4, 4, 5]) } else { rng.within(2, 3) };
+    let subjects = rng.pick(&[2, 3, 3]);
+    Shape { subjects, relations: 2, attributes, nodes, leaves: 2, dealt: true }
+}
+
+fn joined(rng: &mut Rng) -> Shape {
+    let relations = rng.within(2, 3);
+    let attributes = rng.within(2 * relations, 16);
+    let nodes = 2 * relations - 1 + rng.below(5);
+    let subjects = rng.within(2, 5);
+    Shape { subjects, relations, attributes, nodes, leaves: relations, dealt: false }
 }
 
 fn relations(rng: &mut Rng, shape: &Shape) -> Vec<Relation> {
@@ -57,7 +82,8 @@ fn relations(rng: &mut Rng, shape: &Shape) -> Vec<Relation> {
     rng.shuffle(&mut attributes);
     let mut sets = vec![Flags::NONE; shape.relations];
     for (turn, &attribute) in attributes.iter().enumerate() {
-        let index = if turn < shape.relations { turn } else { rng.below(shape.relations) };
+        let in_turn = shape.dealt || turn < shape.relations;
+        let index = if in_turn { turn % shape.relations } else { rng.below(shape.relations) };
         sets[index].put(attribute);
     }
     sets.into_iter().map(|set| Relation { owner: rng.below(shape.subjects), set }).collect()
@@ -132,7 +158,7 @@ fn grants(rng: &mut Rng, shape: &Shape, relations: &[Relation], size: Size) -> V
     let full = matches!(size, Size::Longest);
     let chance = match size {
         Size::Even | Size::Middle | Size::Broad | Size::Large | Size::Longest => 60,
-        Size::Tiny | Size::Small | Size::Deep | Size::Medium => 0,
+        Size::Tiny | Size::Paired | Size::Small | Size::Joined | Size::Deep | Size::Medium => 0,
     };
     let steady = |_| if rng.percent(chance) { Some(rng.pick(&STEADY)) } else { None };
     let steady: Vec<Option<Pattern>> = (0..shape.subjects).map(steady).collect();
@@ -167,6 +193,9 @@ struct Forest<'a> {
     nodes: Vec<Node>,
     roots: Vec<(usize, Flags)>,
     need_chance: usize,
+    /// Of a hundred joins, so many are on several pairs. Where there are such, fewer
+    /// are products and leaves hold more, so that there is something to pair.
+    paired: usize,
     /// Used again and again: parts that must outlive a column show only when
     /// it is tested in one form, used in the other, and then dropped.
     favourite: usize,
@@ -181,10 +210,11 @@ impl Forest<'_> {
     fn add(&mut self, work: Work, before: &Flags) {
         let reads = work.reads();
         let needs = self.rng.percent(self.need_chance);
-        let needed = match (needs, work.reads_together()) {
-            (false, _) => Flags::NONE,
-            (true, true) => reads,
-            (true, false) => subset(self.rng, &reads, 60),
+        let needed = match &work {
+            _ if !needs => Flags::NONE,
+            Work::JoinPairs { pairs, .. } => pairs::needed(self.rng, pairs),
+            work if !work.together().is_empty() => reads,
+            _ => subset(self.rng, &reads, 60),
         };
         self.roots.push((self.nodes.len(), work.visible_after(before)));
         self.nodes.push(Node { work, needed, size: 0 });
@@ -192,7 +222,8 @@ impl Forest<'_> {
 
     fn leaf(&mut self) {
         let relation = self.untaken.pop().expect("no more leaves than relations");
-        let density = self.rng.pick(&[30, 70, 100]);
+        let densities = if self.paired > 0 { [70, 100, 100] } else { [30, 70, 100] };
+        let density = self.rng.pick(&densities);
         let set = nonempty_subset(self.rng, &self.relations[relation].set, density);
         self.add(Work::Leaf { relation, set }, &Flags::NONE);
     }
@@ -200,8 +231,12 @@ impl Forest<'_> {
     fn binary(&mut self) {
         let (left, left_seen) = self.take_root();
         let (right, right_seen) = self.take_root();
-        let work = if self.rng.percent(35) {
+        let products = if self.paired > 0 { (100 - self.paired) / 2 } else { 35 };
+        let work = if self.rng.percent(products) {
             Work::Product { left, right }
+        } else if self.paired > 0 && self.rng.percent(self.paired) {
+            let pairs = pairs::draw(self.rng, &left_seen, &right_seen);
+            Work::JoinPairs { left, right, first: 0, pairs }
         } else {
             let x = self.rng.pick(&left_seen.list());
             let y = self.rng.pick(&right_seen.list());
@@ -298,9 +333,24 @@ fn prices(rng: &mut Rng, file: &mut File, even: bool) {
     }
 }
 
-/// A file of version 1 that keeps every rule, save that a part of those asked for
-/// `torn` have more than one tree. Any number of steps is allowed in it.
-pub fn file(rng: &mut Rng, size: Size, torn: bool) -> File {
+/// Of a hundred joins, so many are on several pairs.
+fn paired_joins(size: Size, version: usize) -> usize {
+    match size {
+        _ if version < 3 => 0,
+        Size::Paired => 95,
+        _ => 65,
+    }
+}
+
+/// A version, each as often.
+pub fn version(rng: &mut Rng) -> usize {
+    rng.within(1, VERSIONS)
+}
+
+/// A file that keeps every rule, save that a part of those asked for `torn` have
+/// more than one tree. Any number of steps is allowed in it, and its user, if the
+/// version has one, is anybody.
+pub fn file(rng: &mut Rng, size: Size, version: usize, torn: bool) -> File {
     let shape = shape(rng, size);
     let relations = relations(rng, &shape);
     let grants = grants(rng, &shape, &relations, size);
@@ -316,12 +366,15 @@ pub fn file(rng: &mut Rng, size: Size, torn: bool) -> File {
         nodes: Vec::new(),
         roots: Vec::new(),
         need_chance,
+        paired: paired_joins(size, version),
         favourite,
     };
     forest.grow(shape.nodes, shape.leaves, trees);
-    let nodes = forest.nodes;
+    let mut nodes = forest.nodes;
+    let full = matches!(size, Size::Longest);
     let mut file = File {
-        user: None,
+        user: (version >= 2).then(|| rng.below(shape.subjects)),
+        pairs: (version >= 3).then(|| pairs::place(rng, &mut nodes, shape.attributes, full)),
         subjects: shape.subjects,
         attributes: shape.attributes,
         allowed: u32::MAX,

@@ -48,23 +48,26 @@ fn of_grant(rng: &mut Rng, grant: &mut Grant) {
 }
 
 fn of_node(rng: &mut Rng, node: &mut Node) {
-    let fields = [&mut node.kind, &mut node.left, &mut node.right, &mut node.x, &mut node.y];
-    match rng.below(12) {
-        field @ 0..=4 => *fields[field] = odd_byte(rng, *fields[field]),
-        5 => node.spare[rng.below(3)] = 1 << rng.below(8),
-        6 | 7 => node.set = odd_set(rng, node.set),
-        8..=10 => node.needed = odd_set(rng, node.needed),
+    let Node { kind, left, right, x, y, first, count, .. } = node;
+    let fields = [kind, left, right, x, y, first, count];
+    match rng.below(14) {
+        field @ 0..=6 => *fields[field] = odd_byte(rng, *fields[field]),
+        7 => node.spare[rng.below(3)] = 1 << rng.below(8),
+        8 | 9 => node.set = odd_set(rng, node.set),
+        10..=12 => node.needed = odd_set(rng, node.needed),
         _ => node.size = odd_price(rng, MOST_SIZE),
     }
 }
 
 pub fn fault(rng: &mut Rng, values: &mut Values) {
-    let Values { relations, grants, nodes, step_prices, link_prices, .. } = values;
-    match rng.below(10) {
+    let Values { relations, grants, nodes, pairs, step_prices, link_prices, .. } = values;
+    match rng.below(12) {
         0 | 1 => in_one(rng, relations, of_relation),
         2..=4 => in_one(rng, grants, of_grant),
         5..=7 => in_one(rng, nodes, of_node),
-        8 => in_one(rng, step_prices, |rng, price| *price = odd_price(rng, MOST_STEP_PRICE)),
+        8 => in_one(rng, pairs, |rng, byte| *byte = odd_byte(rng, *byte)),
+        9 => pairs.chunks_mut(2).for_each(<[u8]>::reverse),
+        10 => in_one(rng, step_prices, |rng, price| *price = odd_price(rng, MOST_STEP_PRICE)),
         _ => in_one(rng, link_prices, |rng, price| *price = odd_price(rng, MOST_LINK_PRICE)),
     }
 }

@@ -1,7 +1,7 @@
 //! The values of a plan file as they stand, right or wrong, laid out as C has
 //! them: taken out of a file's bytes, and put into bytes again.
 
-use crate::file::{Counts, Layout, header_of};
+use crate::file::{Counts, Layout, form_of};
 use crate::reading::{self, Refusal};
 
 #[repr(C)]
@@ -15,6 +15,7 @@ pub struct Header {
     pub grants: u16,
     pub steps: u32,
     pub user: u8,
+    pub pairs: u8,
 }
 
 #[repr(C)]
@@ -45,6 +46,8 @@ pub struct Node {
     pub set: u64,
     pub needed: u64,
     pub size: u32,
+    pub first: u8,
+    pub count: u8,
 }
 
 #[derive(Clone, PartialEq, Debug)]
@@ -53,12 +56,28 @@ pub struct Values {
     pub relations: Vec<Relation>,
     pub grants: Vec<Grant>,
     pub nodes: Vec<Node>,
+    /// Two bytes for each pair.
+    pub pairs: Vec<u8>,
     pub step_prices: Vec<u32>,
     pub link_prices: Vec<u32>,
 }
 
 /// The lists that a header counts, in the file's order.
-pub const LISTS: [&str; 5] = ["relations", "grants", "nodes", "step prices", "link prices"];
+pub const LISTS: [&str; 6] =
+    ["relations", "grants", "nodes", "pairs", "step prices", "link prices"];
+
+/// Where the pairs stand among them.
+pub const PAIRS: usize = 3;
+
+/// Whether a version, if there is such a one, has a user.
+pub fn with_user(version: u16) -> bool {
+    matches!(version, 2 | 3)
+}
+
+/// Likewise pairs.
+pub fn with_pairs(version: u16) -> bool {
+    version == 3
+}
 
 /// What is not yet taken of a file.
 struct Rest<'a>(&'a [u8]);
@@ -87,8 +106,9 @@ impl Rest<'_> {
         let [subjects, relations, attributes, nodes] = self.next();
         let grants = u16::from_be_bytes(self.next());
         let steps = self.word();
-        let user = if version == 2 { self.byte() } else { 0 };
-        Header { version, subjects, relations, attributes, nodes, grants, steps, user }
+        let user = if with_user(version) { self.byte() } else { 0 };
+        let pairs = if with_pairs(version) { self.byte() } else { 0 };
+        Header { version, subjects, relations, attributes, nodes, grants, steps, user, pairs }
     }
 
     fn relation(&mut self) -> Relation {
@@ -103,7 +123,12 @@ impl Rest<'_> {
     fn node(&mut self) -> Node {
         let [kind, left, right, x, y, spare @ ..] = self.next::<8>();
         let (set, needed, size) = (self.set(), self.set(), self.word());
-        Node { kind, left, right, x, y, spare, set, needed, size }
+        Node { kind, left, right, x, y, spare, set, needed, size, first: 0, count: 0 }
+    }
+
+    fn node_with_pairs(&mut self) -> Node {
+        let node = self.node();
+        Node { first: self.byte(), count: self.byte(), ..node }
     }
 
     fn list<T>(&mut self, count: usize, item: fn(&mut Self) -> T) -> Vec<T> {
@@ -112,22 +137,45 @@ impl Rest<'_> {
 }
 
 impl Header {
-    /// How many of each list it asks for.
-    pub fn asks(&self) -> [usize; 5] {
+    fn encode(&self) -> Vec<u8> {
+        let Header { version, subjects, relations, attributes, nodes, .. } = *self;
+        let mut out = b"AXP".to_vec();
+        out.extend(version.to_be_bytes());
+        out.extend([subjects, relations, attributes, nodes]);
+        out.extend(self.grants.to_be_bytes());
+        out.extend(self.steps.to_be_bytes());
+        if with_user(version) {
+            out.push(self.user);
+        }
+        if with_pairs(version) {
+            out.push(self.pairs);
+        }
+        out
+    }
+
+    /// How many of each list it asks for, of pairs how many bytes.
+    pub fn asks(&self) -> [usize; LISTS.len()] {
         let [subjects, relations, nodes] =
             [self.subjects, self.relations, self.nodes].map(usize::from);
-        [relations, self.grants.into(), nodes, nodes * subjects, subjects * subjects]
+        let pairs = 2 * self.pairs_counted();
+        [relations, self.grants.into(), nodes, pairs, nodes * subjects, subjects * subjects]
+    }
+
+    /// How many pairs it counts: where the version has none, its number means nothing.
+    fn pairs_counted(&self) -> usize {
+        if with_pairs(self.version) { self.pairs.into() } else { 0 }
     }
 
     /// How long the file is by its counts; one of a version that there is not is
     /// taken for version 1.
     pub fn file_length(&self) -> usize {
         let counts = Counts {
-            header: header_of(self.version.into()).or(header_of(1)).expect("there is version 1"),
+            form: form_of(self.version.into()).or(form_of(1)).expect("there is version 1"),
             subjects: self.subjects.into(),
             relations: self.relations.into(),
             grants: self.grants.into(),
             nodes: self.nodes.into(),
+            pairs: self.pairs_counted(),
         };
         Layout::of(&counts).end
     }
@@ -139,35 +187,42 @@ impl Values {
         reading::opened(file)?;
         let mut rest = Rest(&file[3..]);
         let header = rest.header();
-        let [relations, grants, nodes, steps, links] = header.asks();
+        let [relations, grants, nodes, pairs, steps, links] = header.asks();
+        let node = if with_pairs(header.version) { Rest::node_with_pairs } else { Rest::node };
         Ok(Values {
             header,
             relations: rest.list(relations, Rest::relation),
             grants: rest.list(grants, Rest::grant),
-            nodes: rest.list(nodes, Rest::node),
+            nodes: rest.list(nodes, node),
+            pairs: rest.list(pairs, Rest::byte),
             step_prices: rest.list(steps, Rest::word),
             link_prices: rest.list(links, Rest::word),
         })
     }
 
     /// How many there are of each list.
-    pub fn lengths(&self) -> [usize; 5] {
-        let Values { relations, grants, nodes, step_prices, link_prices, .. } = self;
-        [relations.len(), grants.len(), nodes.len(), step_prices.len(), link_prices.len()]
+    pub fn lengths(&self) -> [usize; LISTS.len()] {
+        let Values { relations, grants, nodes, pairs, step_prices, link_prices, .. } = self;
+        let prices = [step_prices.len(), link_prices.len()];
+        [relations.len(), grants.len(), nodes.len(), pairs.len(), prices[0], prices[1]]
+    }
+
+    /// The values without those that their version does not write.
+    pub fn meant(&self) -> Values {
+        let mut meant = self.clone();
+        if !with_user(self.header.version) {
+            meant.header.user = 0;
+        }
+        if !with_pairs(self.header.version) {
+            meant.header.pairs = 0;
+            meant.nodes.iter_mut().for_each(|node| (node.first, node.count) = (0, 0));
+        }
+        meant
     }
 
     /// The bytes of the values, all that the lists hold.
     pub fn encode(&self) -> Vec<u8> {
-        let Header { version, subjects, relations, attributes, nodes, grants, steps, user } =
-            self.header;
-        let mut out = b"AXP".to_vec();
-        out.extend(version.to_be_bytes());
-        out.extend([subjects, relations, attributes, nodes]);
-        out.extend(grants.to_be_bytes());
-        out.extend(steps.to_be_bytes());
-        if version == 2 {
-            out.push(user);
-        }
+        let mut out = self.header.encode();
         for Relation { owner, set } in &self.relations {
             out.push(*owner);
             out.extend(set.to_be_bytes());
@@ -183,7 +238,11 @@ impl Values {
             out.extend(node.set.to_be_bytes());
             out.extend(node.needed.to_be_bytes());
             out.extend(node.size.to_be_bytes());
+            if with_pairs(self.header.version) {
+                out.extend([node.first, node.count]);
+            }
         }
+        out.extend(&self.pairs);
         out.extend(self.step_prices.iter().chain(&self.link_prices).flat_map(|p| p.to_be_bytes()));
         out
     }

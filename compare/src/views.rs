@@ -88,6 +88,9 @@ impl Profile {
             Work::SelectPair { x, y, .. } | Work::Join { x, y, .. } => table.ties.tie(&[x, y]),
             Work::Aggregate { set, .. } | Work::Count { set, .. } => table.test(&set),
             Work::Function { set, .. } => table.ties.tie(&set.list()),
+            Work::JoinPairs { ref pairs, .. } => {
+                pairs.iter().for_each(|&(x, y)| table.ties.tie(&[x, y]));
+            }
         }
         let after = work.visible_after(&table.visible());
         table.visible_clear = table.visible_clear.and(&after);

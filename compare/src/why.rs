@@ -95,7 +95,8 @@ fn stays(work: &Work, attribute: usize) -> bool {
         Work::SelectValue { .. }
         | Work::SelectPair { .. }
         | Work::Product { .. }
-        | Work::Join { .. } => true,
+        | Work::Join { .. }
+        | Work::JoinPairs { .. } => true,
     }
 }
 
@@ -157,6 +158,9 @@ impl Contents {
             }
             Work::SelectPair { x, y, .. } | Work::Join { x, y, .. } => table.tie(vec![x, y]),
             Work::Function { set, .. } => table.tie(set.list()),
+            Work::JoinPairs { ref pairs, .. } => {
+                pairs.iter().for_each(|&(x, y)| table.tie(vec![x, y]));
+            }
         }
         for (attribute, held) in table.held.iter_mut().enumerate() {
             held.column = held.column.filter(|_| stays(work, attribute));

@@ -1,6 +1,7 @@
 //! The program `why`: started once for each of some questions, the file on its
 //! standard input, node and subject as words; all that it prints is compared.
 
+use crate::file::VERSIONS;
 use crate::generate::Case;
 use crate::planner::{Study, study};
 use crate::program::printed;
@@ -25,8 +26,8 @@ pub const SORTS: [&str; 11] = [
 ];
 /// On files of each version so many starts of each of these sorts, and so many
 /// answered ones on files of many nodes; and so many of each refusal 1 to 11.
-const WANTED: [usize; SORTS.len()] = [20, 12, 12, 12, 12, 12, 12, 20, 6, 6, 6];
-const OF_MANY: usize = 10;
+const WANTED: [usize; SORTS.len()] = [14, 8, 8, 8, 8, 8, 8, 14, 4, 4, 4];
+const OF_MANY: usize = 7;
 const OF_REFUSAL: usize = 8;
 /// How many sorts of starts there are on files of one version.
 const OF_VERSION: usize = SORTS.len() + 1;
@@ -36,7 +37,7 @@ const BAD: [&[&[u8]]; 4] = [&[], &[b"0"], &[b"0", b"0", b"0"], &[b"", b""]];
 pub fn starts() -> Starts {
     let many = format!("answered for {MANY_NODES} nodes or more");
     let sorts = || SORTS.into_iter().zip(WANTED).chain([(&many[..], OF_MANY)]);
-    let read = [1, 2].into_iter().flat_map(|version| {
+    let read = (1..=VERSIONS).flat_map(|version| {
         let what = move |sort: &str| format!("starts of why in version {version}, {sort}");
         sorts().map(move |(sort, wanted)| (what(sort), wanted))
     });
@@ -59,11 +60,11 @@ pub fn sort(study: &Study, asked: Question, verdict: &Verdict) -> usize {
     }
 }
 
-/// The sort for which a start is counted: those of version 1 with its files of
-/// many nodes last, then those of version 2, then refusals 1 to 11.
+/// The sort for which a start is counted: those of each version with its files of
+/// many nodes last, then refusals 1 to 11.
 pub fn start_sort(study: &Result<Study, Refusal>, asked: Question, verdict: &Verdict) -> usize {
     let study = match study {
-        Err(refusal) => return 2 * OF_VERSION - 1 + refusal.number as usize,
+        Err(refusal) => return VERSIONS * OF_VERSION - 1 + refusal.number as usize,
         Ok(study) => study,
     };
     let many = study.file.nodes.len() >= MANY_NODES && verdict.is_ok();

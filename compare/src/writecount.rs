@@ -4,76 +4,93 @@
 use std::fmt::Display;
 
 use crate::coverage::{Line, count, line};
+use crate::file::VERSIONS;
 use crate::orders::{FAR, UNKNOWN_VERSIONS};
 use crate::reading::{Refusal, read};
-use crate::values::{Header, LISTS, Values};
+use crate::values::{LISTS, Node, PAIRS, Values, with_pairs};
 use crate::writer::{Order, outside};
 
 /// Each with its floor: the refusals of values, and those of files that have some.
 const REFUSED: [(u64, usize); 11] = [
-    (2, 3_700),
-    (3, 13_300),
-    (4, 7_000),
-    (5, 4_500),
-    (6, 4_300),
-    (7, 630),
-    (8, 3_500),
-    (9, 2_100),
-    (10, 820),
-    (11, 1_550),
-    (15, 7_500),
+    (2, 3_850),
+    (3, 14_000),
+    (4, 8_000),
+    (5, 3_850),
+    (6, 3_450),
+    (7, 520),
+    (8, 4_500),
+    (9, 2_500),
+    (10, 1_000),
+    (11, 1_100),
+    (15, 8_150),
 ];
 const REFUSED_BACK: [(u64, usize); 7] =
-    [(5, 4_600), (6, 5_200), (7, 550), (8, 4_500), (9, 2_900), (10, 1_000), (11, 1_350)];
+    [(5, 3_700), (6, 4_000), (7, 440), (8, 5_800), (9, 3_350), (10, 1_350), (11, 850)];
+/// For each version.
+const BACK: [(usize, usize); VERSIONS] = [(1, 19_500), (2, 19_500), (3, 19_000)];
+const WRITTEN: [(usize, usize); VERSIONS] = [(1, 13_000), (2, 12_000), (3, 12_000)];
 /// For each version that there is not.
-const LEAST_OF_UNKNOWN: usize = 500;
-const MISCOUNTED: [(&str, usize); LISTS.len()] =
-    [(LISTS[0], 1_650), (LISTS[1], 1_700), (LISTS[2], 1_350), (LISTS[3], 1_400), (LISTS[4], 1_400)];
+const LEAST_OF_UNKNOWN: usize = 340;
+const MISCOUNTED: [(&str, usize); LISTS.len()] = [
+    (LISTS[0], 1_350),
+    (LISTS[1], 1_650),
+    (LISTS[2], 1_100),
+    (LISTS[3], 840),
+    (LISTS[4], 1_100),
+    (LISTS[5], 1_150),
+];
 const WAYS: [(&str, usize); 6] = [
     ("with one more", 6_000),
-    ("with one fewer", 6_100),
-    ("with none", 1_700),
-    ("with far too many", 2_650),
-    ("with as many if cut to 8 or 16 bits", 1_000),
-    ("with the file's length right all the same", 2_950),
+    ("with one fewer", 6_200),
+    ("with none", 1_450),
+    ("with far too many", 2_450),
+    ("with as many if cut to 8 or 16 bits", 880),
+    ("with the file's length right all the same", 3_050),
 ];
 /// In the order of the writer's verdict.
 const OUTSIDE: [(&str, usize); 6] = [
-    ("subjects", 1_080),
-    ("relations", 1_170),
-    ("attributes", 970),
-    ("nodes", 1_000),
-    ("grants", 1_030),
-    ("the user", 1_320),
+    ("subjects", 920),
+    ("relations", 1_100),
+    ("attributes", 940),
+    ("nodes", 960),
+    ("grants", 1_250),
+    ("the user", 1_800),
 ];
 const ROOMS: [(&str, usize); 6] = [
-    ("exactly long enough", 20_800),
-    ("one byte longer", 5_000),
-    ("longer by more", 7_500),
-    ("longer than 16 bits can say", 820),
-    ("short by one", 4_150),
-    ("none, behind a null pointer", 820),
+    ("exactly long enough", 23_000),
+    ("one byte longer", 5_350),
+    ("longer by more", 8_150),
+    ("longer than 16 bits can say", 790),
+    ("short by one", 4_400),
+    ("none, behind a null pointer", 810),
 ];
 /// The first is given, the other would be if it were asked before.
 const COMPETING: [(&str, usize); 9] = [
-    ("2 before 4", 235),
-    ("2 before 3", 580),
-    ("2 before 15", 670),
+    ("2 before 4", 180),
+    ("2 before 3", 1_350),
+    ("2 before 15", 650),
     ("4 before 3", 2_150),
-    ("4 before 15", 2_050),
-    ("3 before 5 to 11", 1_650),
-    ("3 before 15", 2_400),
-    ("5 to 10 before 15", 2_950),
-    ("11 before 15", 280),
+    ("4 before 15", 2_150),
+    ("3 before 5 to 11", 1_600),
+    ("3 before 15", 2_350),
+    ("5 to 10 before 15", 3_050),
+    ("11 before 15", 165),
 ];
 
 #[derive(Default)]
 pub struct Writes {
     /// By the version, as those written.
-    back: [usize; 2],
+    back: [usize; VERSIONS],
     refused_back: [usize; REFUSED_BACK.len()],
-    written: [usize; 2],
+    written: [usize; VERSIONS],
     odd_user: usize,
+    odd_pairs: usize,
+    odd_named: usize,
+    joins: usize,
+    kind_before: usize,
+    listed_before: usize,
+    by_a_pair: usize,
+    half_listed: usize,
     at_the_limits: usize,
     refused: [usize; REFUSED.len()],
     unknown: [usize; UNKNOWN_VERSIONS.len()],
@@ -83,6 +100,7 @@ pub struct Writes {
     outside_as_many: usize,
     rooms: [usize; ROOMS.len()],
     null_lists: usize,
+    null_pairs: usize,
     competing: [usize; COMPETING.len()],
 }
 
@@ -126,10 +144,11 @@ fn ways(values: &Values) -> [bool; WAYS.len()] {
 /// lists have them all.
 fn faulty(values: &Values) -> bool {
     let mut cut = values.clone();
-    let [relations, grants, nodes, steps, links] = cut.header.asks();
+    let [relations, grants, nodes, pairs, steps, links] = cut.header.asks();
     cut.relations.truncate(relations);
     cut.grants.truncate(grants);
     cut.nodes.truncate(nodes);
+    cut.pairs.truncate(pairs);
     cut.step_prices.truncate(steps);
     cut.link_prices.truncate(links);
     cut.lengths() == cut.header.asks() && read(&cut.encode()).is_err()
@@ -148,9 +167,13 @@ impl Writes {
         let Order { values, room, bare, .. } = order;
         let length = values.header.file_length();
         let number = verdict.as_ref().err().map(|refusal| refusal.number);
-        self.null_lists += count(*bare == 0 && values.lengths().contains(&0));
+        let mut lengths = values.lengths();
+        // Most have no pairs, so that these are counted apart.
+        self.null_pairs += count(*bare == 0 && lengths[PAIRS] == 0);
+        lengths[PAIRS] = 1;
+        self.null_lists += count(*bare == 0 && lengths.contains(&0));
         match number {
-            None => self.accepted(&values.header, *room - length),
+            None => self.accepted(values, *room - length),
             Some(number) => {
                 add(&mut self.refused, REFUSED.map(|(n, _)| n == number));
                 self.refusal(values, number);
@@ -161,7 +184,13 @@ impl Writes {
         }
     }
 
-    fn accepted(&mut self, header: &Header, over: usize) {
+    fn accepted(&mut self, values: &Values, over: usize) {
+        let Values { header, nodes, .. } = values;
+        let listed = with_pairs(header.version);
+        let named = |node: &Node| (node.first, node.count) != (0, 0);
+        self.odd_pairs += count(!listed && header.pairs > 0);
+        self.odd_named += count(!listed && nodes.iter().any(named));
+        self.joins += count(nodes.iter().any(|node| node.kind == 9));
         self.written[usize::from(header.version) - 1] += 1;
         self.odd_user += count(header.version == 1 && header.user >= header.subjects);
         self.at_the_limits += count(header.nodes == 64 && header.subjects == 16);
@@ -179,10 +208,19 @@ impl Writes {
                     std::array::from_fn(|list| lengths[list] != asked[list]);
                 add(&mut self.miscounted, alone(wrong));
                 add(&mut self.ways, ways(values));
+                let listed = with_pairs(values.header.version);
+                let only = alone(wrong)[PAIRS] && listed;
+                self.listed_before += count(!listed && !values.pairs.is_empty());
+                self.by_a_pair += count(only && lengths[PAIRS].abs_diff(asked[PAIRS]) == 2);
+                self.half_listed += count(only && 2 * lengths[PAIRS] == asked[PAIRS]);
             }
             4 => {
                 add(&mut self.outside, alone(outside(&values.header)));
                 self.outside_as_many += count(lengths == asked);
+            }
+            8 => {
+                let kind_9 = values.nodes.iter().any(|node| node.kind == 9);
+                self.kind_before += count(kind_9 && !with_pairs(values.header.version));
             }
             _ => {}
         }
@@ -207,20 +245,25 @@ impl Writes {
     }
 
     pub fn lines(&self) -> Vec<Line> {
-        let [first, second] = self.back;
-        let whole = first + second + self.written[0] + self.written[1];
+        let whole = self.back.iter().chain(&self.written).sum();
         let mut lines = vec![
             line("nights written and read back", whole, 100_000),
-            line("files of version 1 through values and back", first, 29_500),
-            line("files of version 2 through values and back", second, 29_500),
-            line("values written in version 1", self.written[0], 17_500),
-            line("values written in version 2", self.written[1], 16_600),
-            line("values written in version 1, the user nobody's number", self.odd_user, 12_800),
-            line("values written, 64 nodes and 16 subjects", self.at_the_limits, 125),
-            line("values refused with 4, the lists as many", self.outside_as_many, 4_800),
-            line("values with an empty list behind a null pointer", self.null_lists, 1_230),
+            line("values written in version 1, the user nobody's number", self.odd_user, 9_750),
+            line("values written without pairs, a number of pairs", self.odd_pairs, 19_000),
+            line("values written without pairs, a node names some", self.odd_named, 24_000),
+            line("values written with a join on pairs", self.joins, 4_500),
+            line("values refused with 8, kind 9 in version 1 or 2", self.kind_before, 360),
+            line("values refused with 3, pairs in version 1 or 2", self.listed_before, 710),
+            line("values refused with 3, one pair more or fewer", self.by_a_pair, 100),
+            line("values refused with 3, as many bytes as pairs", self.half_listed, 40),
+            line("values written, 64 nodes and 16 subjects", self.at_the_limits, 100),
+            line("values refused with 4, the lists as many", self.outside_as_many, 5_600),
+            line("values with an empty list behind a null pointer", self.null_lists, 1_050),
+            line("values without pairs behind a null pointer", self.null_pairs, 33_000),
         ];
         let unknown = UNKNOWN_VERSIONS.map(|version| (version, LEAST_OF_UNKNOWN));
+        lines.extend(lines_of("files through values and back, version", &BACK, &self.back));
+        lines.extend(lines_of("values written in version", &WRITTEN, &self.written));
         lines.extend(lines_of("files through values, refusal", &REFUSED_BACK, &self.refused_back));
         lines.extend(lines_of("values with refusal", &REFUSED, &self.refused));
         lines.extend(lines_of("values of version", &unknown, &self.unknown));

@@ -2,7 +2,7 @@
 
 use crate::reading::{Refusal, read, refuse};
 use crate::record::code;
-use crate::values::{Header, Values};
+use crate::values::{Header, Values, with_user};
 
 /// Bytes kept behind each room, which no call may touch.
 const GUARD: usize = 16;
@@ -69,14 +69,14 @@ pub fn outside(header: &Header) -> [bool; 6] {
         attributes == 0 || attributes > 64,
         nodes == 0 || nodes > 64,
         grants > 272,
-        version == 2 && user >= subjects,
+        with_user(version) && user >= subjects,
     ]
 }
 
 /// The file that is written, or the refusal: 1 cannot arise, and of what reading
 /// refuses only 5 to 11 is left once the header and the lists fit.
 pub fn verdict(values: &Values, room: usize) -> Result<Vec<u8>, Refusal> {
-    if values.header.version != 1 && values.header.version != 2 {
+    if !(1..=3).contains(&values.header.version) {
         return refuse(2, 0);
     }
     if outside(&values.header).contains(&true) {

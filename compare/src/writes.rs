@@ -90,13 +90,7 @@ impl Asked {
 fn reads_back(order: &Order, verdict: &Result<Vec<u8>, Refusal>) -> Result<(), String> {
     let right = match verdict {
         Err(refusal) => matches!(refusal.number, 2..=11 | 15),
-        Ok(bytes) => {
-            let mut same = order.values.clone();
-            if same.header.version == 1 {
-                same.header.user = 0;
-            }
-            Values::of(bytes) == Ok(same)
-        }
+        Ok(bytes) => Values::of(bytes) == Ok(order.values.meant()),
     };
     if right { Ok(()) } else { Err(format!("{}\nverdict {verdict:?}", label(order))) }
 }

@@ -27,7 +27,7 @@ fn next(k: u64) -> bool {
     }
     let file = four(&head, 0);
     let offer = four(&head, 4);
-    if 12288 < file || 255 < offer {
+    if 16384 < file || 255 < offer {
         return cut();
     }
     whole(
@@ -42,9 +42,9 @@ fn next(k: u64) -> bool {
 
 // Reads the file and the offer, and answers.
 fn whole(k: u64, m: usize, o: usize, n: usize, p: usize, q: usize) -> bool
-    requires { ⌜ (m ≤ 12288) × (o ≤ 255) ⌝ }
+    requires { ⌜ (m ≤ 16384) × (o ≤ 255) ⌝ }
 {
-    let mut file = [0u8; 12288];
+    let mut file = [0u8; 16384];
     let mut offer = [0u8; 255];
     if !filled(&mut file, m) {
         return cut();

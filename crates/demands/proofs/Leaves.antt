@@ -8,4 +8,4 @@ use Rattle.demands.specs.Leaves.{Leaves}
 
 pub leaves : Leaves
 unfolding anyOf bit member union meet minus usesRight readTogether visibleAfter leastView tests ties result stepTable
-leaves = record { there = refl; not-visible = refl; not-implicit = refl; not-tied = refl }
+leaves = record { there = refl; not-visible = λ N. refl; not-implicit = λ N. refl; not-tied = λ N. refl }

@@ -9,12 +9,12 @@ use Rattle.laws.specs.Choose.{anyOf}
 use Rattle.laws.specs.First.{first, somewhere}
 use Rattle.laws.specs.Upwards.{upwards}
 use Rattle.sets.specs.Sets.{bit, member, union, meet, minus, within, apart, single, unions, lowest, below, size}
-use Rattle.night.specs.Versions.{delivers, headerLength, known}
-use Rattle.night.specs.Night.{Night, relationOf, grantOf, nodeOf, stepPrice, linkPrice}
+use Rattle.night.specs.Versions.{delivers, headerLength, known, hasPairs, nodeLength, lastKind}
+use Rattle.night.specs.Night.{Night, relationOf, grantOf, nodeOf, stepPrice, linkPrice, pairOf}
 use Rattle.night.specs.Promised.{Promised}
-use Rattle.night.specs.Kinds.{usesLeft, usesRight, reads, readTogether, visibleAfter, visibleStep, visibles, usesX, usesY, usesSet, isChild, taken}
+use Rattle.night.specs.Kinds.{usesLeft, usesRight, reads, readTogether, visibleAfter, visibleStep, visibles, usesX, usesY, usesSet, isChild, taken, itsPair, bothOf, pairsRead, usesPairs}
 use Rattle.night.specs.Views.{isFor, grantFor, viewOf, clearOf, sealedOf}
-use Rattle.layout.specs.Layout.{grantsFrom, nodesFrom, stepPricesFrom, linkPricesFrom, headerOf, relationAt, grantAt, nodeAt, pricesAt, nightIn, nightOf, fileLength}
+use Rattle.layout.specs.Layout.{grantsFrom, nodesFrom, stepPricesFrom, linkPricesFrom, headerOf, relationAt, grantAt, nodeAt, pricesAt, nightIn, nightOf, fileLength, pairsFrom, pairsIn, pairAt}
 use Rattle.run.specs.Keys.{events, everSealed, groupOf, keyName, holdersOf, keyHolders}
 use Rattle.run.specs.Run.{testedBy, tiedBy, spreadOver, spread, spreadTimes, reached, keyOf, leaving, openedBy, together, leafHeld, resultOver, arriving, heldStep, helds, resultOf, delivered, sealedIn, deliveries, allEvents, holders, Clean}
 use Rattle.model.specs.Ties.{gathered, tie, merged}
@@ -36,13 +36,13 @@ use Rattle.demands.specs.SampleRuns.{subjects, chosen, SampleRuns}
 use Rattle.demands.proofs.Marked.{sound}
 use Rattle.laws.specs.Sums.{sum}
 use Rattle.laws.specs.Trials.{verdict, rows, answers, refuses}
-use Rattle.rules.specs.Rules.{userBad, countsBad, relationBad, leftOver, subjectThere, grantBad, ownerBad, childBad, leftBad, rightBad, unusedBad, shapeBad, leafBad, xBad, yBad, setBad, placeBad, stepBad, half, neededBad, mostForStep, mostForLink}
+use Rattle.rules.specs.Rules.{userBad, countsBad, relationBad, leftOver, subjectThere, grantBad, ownerBad, childBad, leftBad, rightBad, unusedBad, shapeBad, leafBad, xBad, yBad, setBad, placeBad, stepBad, half, neededBad, mostForStep, mostForLink, namesBad, pairBad, pairsBad}
 use Rattle.trials.specs.Trials.{notMarked, notVersioned, headerTrials, takenBefore, pairSeen, isLeafOf, leafBefore, attributesBad, priceIn, mostIn, countIn, trialsOf, section, recordTrials, treeTrials, trials}
 use Rattle.verdicts.specs.Verdicts.{cheapest, room}
 
 -- none of the subjects is refused, without a user or with U
 none-bad : (first (offerBad sampleNight subjects) 6 ≡ 6) × (first (offerBad sampleUser subjects) 6 ≡ 6)
-unfolding anyOf first somewhere upwards bit member union meet minus within single unions relationOf grantOf nodeOf usesRight reads readTogether visibleAfter isFor grantFor viewOf clearOf sealedOf gathered tie merged leastView tests ties joined result leafTable stepTable tableStep tables tableOf clearOffends sealedOffends tiedOffends may mayTake isCandidate candidateSet offerBad sampleIn
+unfolding anyOf first somewhere upwards bit member union meet minus within single unions relationOf grantOf pairOf nodeOf usesRight itsPair bothOf pairsRead reads readTogether visibleAfter isFor grantFor viewOf clearOf sealedOf gathered tie merged leastView tests ties joined result leafTable stepTable tableStep tables tableOf clearOffends sealedOffends tiedOffends may mayTake isCandidate candidateSet offerBad sampleIn
 none-bad = (refl, refl)
 
 module _ (version user : ℕ) (none : first (offerBad (sampleIn version user) subjects) 6 ≡ 6) where
@@ -63,7 +63,7 @@ computed :
     × (keysRoom sampleNight (built sampleNight chosen) ≡ 0 ∷ 3 ∷ 64 ∷ 0 ∷ 2 ∷ 1 ∷ 3 ∷ 1 ∷ 0 ∷ 3 ∷ 5 ∷ 18 ∷ [])
     × (keysRoom sampleUser (built sampleUser chosen) ≡ 0 ∷ 3 ∷ 64 ∷ 0 ∷ 2 ∷ 1 ∷ 3 ∷ 5 ∷ 0 ∷ 3 ∷ 5 ∷ 18 ∷ [])
     × (holders sampleUser (built sampleUser chosen) 3 ≡ 5)
-unfolding delivers headerLength anyOf be first somewhere upwards bit member union meet minus within apart single unions lowest relationOf grantOf nodeOf usesLeft usesRight reads readTogether visibleAfter visibleStep visibles grantsFrom nodesFrom stepPricesFrom linkPricesFrom headerOf relationAt grantAt nodeAt pricesAt nightIn gathered tie merged leastView tests ties joined result leafTable stepTable tableStep tables tableOf leavesSealed arrivesSealed opensAt sealedStep sealedResults openings sealsStep sealings rootTied nameIn holdersIn inTurn planRoom keysRoom events everSealed groupOf keyName holdersOf keyHolders testedBy tiedBy spreadOver spread spreadTimes reached keyOf leaving openedBy together leafHeld resultOver arriving heldStep helds resultOf delivered sealedIn deliveries allEvents holders sampleIn sample trailingZeros
+unfolding delivers hasPairs nodeLength headerLength anyOf be first somewhere upwards bit member union meet minus within apart single unions lowest relationOf grantOf pairOf nodeOf usesLeft usesRight itsPair bothOf pairsRead reads readTogether visibleAfter visibleStep visibles grantsFrom pairsFrom pairsIn nodesFrom stepPricesFrom linkPricesFrom headerOf relationAt grantAt pairAt nodeAt pricesAt nightIn gathered tie merged leastView tests ties joined result leafTable stepTable tableStep tables tableOf leavesSealed arrivesSealed opensAt sealedStep sealedResults openings sealsStep sealings rootTied nameIn holdersIn inTurn planRoom keysRoom events everSealed groupOf keyName holdersOf keyHolders testedBy tiedBy spreadOver spread spreadTimes reached keyOf leaving openedBy together leafHeld resultOver arriving heldStep helds resultOf delivered sealedIn deliveries allEvents holders sampleIn sample trailingZeros
 computed = (refl, refl, refl, refl, refl)
 
 -- nobody asked in version 1
@@ -76,12 +76,12 @@ said :
     (cheapest (withUser 0 sample) (room 6 12 12) ≡ refuses 17 2)
     × (cheapest (withUser 1 sample) (room 6 12 12) ≡ refuses 17 0)
     × (cheapest (withUser 2 sample) (room 6 12 12) ≡ answers tt)
-    × (choosingOf (withUser 2 sample) ≡ answers (record { version = 2; subjects = 6; relations = 2; attributes = 6; nodes = 6; grants = 14; steps = 76; user = 2 }))
+    × (choosingOf (withUser 2 sample) ≡ answers (record { version = 2; subjects = 6; relations = 2; attributes = 6; nodes = 6; grants = 14; steps = 76; user = 2; pairs = 0 }))
     × (cheapest (withUser 3 sample) (room 6 12 12) ≡ refuses 17 0)
     × (cheapest (withUser 4 sample) (room 6 12 12) ≡ refuses 17 0)
     × (cheapest (withUser 5 sample) (room 6 12 12) ≡ refuses 17 0)
     × (cheapest (withUser 6 sample) (room 6 12 12) ≡ refuses 4 0)
-unfolding anyOf be first somewhere verdict rows upwards bit member union meet minus within apart below single unions relationOf grantOf nodeOf stepPrice linkPrice usesLeft usesRight usesX usesY usesSet reads readTogether visibleAfter visibleStep visibles isChild taken isFor grantFor viewOf known delivers headerLength userBad countsBad relationBad leftOver subjectThere grantBad ownerBad childBad leftBad rightBad unusedBad shapeBad leafBad xBad yBad setBad placeBad stepBad half neededBad mostForStep mostForLink grantsFrom nodesFrom stepPricesFrom linkPricesFrom fileLength headerOf relationAt grantAt nodeAt pricesAt nightIn notMarked notVersioned headerTrials takenBefore pairSeen isLeafOf leafBefore attributesBad priceIn mostIn countIn trialsOf section recordTrials treeTrials trials ones sum size clearOf sealedOf gathered tie merged leastView tests ties joined result leafTable stepTable tableStep tables tableOf clearOffends sealedOffends tiedOffends may mayTake isCandidate candidateSet weight stepsAt steps keptFromUser userTrials choiceTrials withoutCandidate candidateTrials stepsTrials offerBad offerTrials choiceRoomTrials planRoomTrials keysRoomTrials cheapestTrials cheapestPlanTrials offeredTrials offeredPlanTrials noStep askedTrials whyTrials sample choosingOf
+unfolding anyOf be first somewhere verdict rows upwards bit member union meet minus within apart below single unions relationOf grantOf pairOf nodeOf stepPrice linkPrice usesLeft usesRight usesX usesY usesPairs usesSet itsPair bothOf pairsRead reads readTogether visibleAfter visibleStep visibles isChild taken isFor grantFor viewOf lastKind known delivers hasPairs nodeLength headerLength userBad countsBad relationBad leftOver subjectThere grantBad ownerBad childBad leftBad rightBad namesBad unusedBad shapeBad leafBad xBad yBad setBad placeBad pairBad pairsBad stepBad half neededBad mostForStep mostForLink grantsFrom pairsFrom pairsIn nodesFrom stepPricesFrom linkPricesFrom fileLength headerOf relationAt grantAt pairAt nodeAt pricesAt nightIn notMarked notVersioned headerTrials takenBefore pairSeen isLeafOf leafBefore attributesBad priceIn mostIn countIn trialsOf section recordTrials treeTrials trials ones sum size clearOf sealedOf gathered tie merged leastView tests ties joined result leafTable stepTable tableStep tables tableOf clearOffends sealedOffends tiedOffends may mayTake isCandidate candidateSet weight stepsAt steps keptFromUser userTrials choiceTrials withoutCandidate candidateTrials stepsTrials offerBad offerTrials choiceRoomTrials planRoomTrials keysRoomTrials cheapestTrials cheapestPlanTrials offeredTrials offeredPlanTrials noStep askedTrials whyTrials sample choosingOf
 said = (refl, refl, refl, refl, refl, refl, refl, refl)
 
 user-sound : Promised sampleUser

@@ -9,6 +9,7 @@ use Rattle.laws.specs.First.{somewhere}
 use Rattle.laws.specs.Trials.{answers}
 use Rattle.sets.specs.Sets.{member, single}
 use Rattle.night.specs.declared.Node.{Node}
+use Rattle.night.specs.Night.{Night}
 use Rattle.night.specs.Views.{anySubject, viewOf, clearOf, sealedOf}
 use Rattle.layout.specs.Layout.{nightOf}
 use Rattle.model.specs.declared.Table.{Table}
@@ -57,5 +58,5 @@ pub record Marked : Type 0 where
   -- a user function over {a} ties {a}, whatever its operand shows and ties; where a was untied, its tied set is {a} alone
   pub function-ties : FunctionTies
   pub function-ties-alone :
-      (v : Node) (a : ℕ) (l r : Table) → a < 64 → v .kind ≡ 8 → v .set ≡ single 64 a → getD (l .tied) a 0 ≡ 0
-      → getD (stepTable v l r .tied) a 0 ≡ single 64 a
+      (N : Night) (v : Node) (a : ℕ) (l r : Table) → a < 64 → v .kind ≡ 8 → v .set ≡ single 64 a → getD (l .tied) a 0 ≡ 0
+      → getD (stepTable N v l r .tied) a 0 ≡ single 64 a

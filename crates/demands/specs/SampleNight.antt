@@ -7,7 +7,7 @@ use Rattle.night.specs.Night.{Night}
 unfoldable pub sampleIn : ℕ → ℕ → Night
 sampleIn version user =
     record {
-      header = record { version = version; subjects = 6; relations = 2; attributes = 6; nodes = 6; grants = 14; steps = 76; user = user };
+      header = record { version = version; subjects = 6; relations = 2; attributes = 6; nodes = 6; grants = 14; steps = 76; user = user; pairs = 0 };
       relations =
           record { owner = 0; set = 15 }
           ∷ record { owner = 1; set = 48 }
@@ -29,13 +29,14 @@ sampleIn version user =
           ∷ record { relation = 1; subject = 255; clear = 0; sealed = 32 }
           ∷ [];
       nodes =
-          record { kind = 0; left = 255; right = 255; x = 0; y = 255; spare1 = 0; spare2 = 0; spare3 = 0; set = 13; needed = 0; size = 4 }
-          ∷ record { kind = 2; left = 0; right = 255; x = 2; y = 255; spare1 = 0; spare2 = 0; spare3 = 0; set = 0; needed = 0; size = 2 }
-          ∷ record { kind = 0; left = 255; right = 255; x = 1; y = 255; spare1 = 0; spare2 = 0; spare3 = 0; set = 48; needed = 0; size = 4 }
-          ∷ record { kind = 5; left = 1; right = 2; x = 0; y = 4; spare1 = 0; spare2 = 0; spare3 = 0; set = 0; needed = 0; size = 3 }
-          ∷ record { kind = 6; left = 3; right = 255; x = 5; y = 255; spare1 = 0; spare2 = 0; spare3 = 0; set = 8; needed = 0; size = 1 }
-          ∷ record { kind = 2; left = 4; right = 255; x = 5; y = 255; spare1 = 0; spare2 = 0; spare3 = 0; set = 0; needed = 32; size = 1 }
+          record { kind = 0; left = 255; right = 255; x = 0; y = 255; spare1 = 0; spare2 = 0; spare3 = 0; set = 13; needed = 0; size = 4; first = 0; count = 0 }
+          ∷ record { kind = 2; left = 0; right = 255; x = 2; y = 255; spare1 = 0; spare2 = 0; spare3 = 0; set = 0; needed = 0; size = 2; first = 0; count = 0 }
+          ∷ record { kind = 0; left = 255; right = 255; x = 1; y = 255; spare1 = 0; spare2 = 0; spare3 = 0; set = 48; needed = 0; size = 4; first = 0; count = 0 }
+          ∷ record { kind = 5; left = 1; right = 2; x = 0; y = 4; spare1 = 0; spare2 = 0; spare3 = 0; set = 0; needed = 0; size = 3; first = 0; count = 0 }
+          ∷ record { kind = 6; left = 3; right = 255; x = 5; y = 255; spare1 = 0; spare2 = 0; spare3 = 0; set = 8; needed = 0; size = 1; first = 0; count = 0 }
+          ∷ record { kind = 2; left = 4; right = 255; x = 5; y = 255; spare1 = 0; spare2 = 0; spare3 = 0; set = 0; needed = 32; size = 1; first = 0; count = 0 }
           ∷ [];
+      pairs = [];
       stepPrices =
           (0 ∷ 0 ∷ 0 ∷ 0 ∷ 0 ∷ 0 ∷ [])
           ∷ (3 ∷ 3 ∷ 10 ∷ 1 ∷ 2 ∷ 1 ∷ [])

@@ -43,5 +43,5 @@ pub record SampleRuns : Type 0 where
   pub sample-y : cheapest (withUser 4 sample) (room 6 12 12) ≡ refuses 17 0
   pub sample-z : cheapest (withUser 5 sample) (room 6 12 12) ≡ refuses 17 0
   pub sample-passes :
-      choosingOf (withUser 2 sample) ≡ answers (record { version = 2; subjects = 6; relations = 2; attributes = 6; nodes = 6; grants = 14; steps = 76; user = 2 })
+      choosingOf (withUser 2 sample) ≡ answers (record { version = 2; subjects = 6; relations = 2; attributes = 6; nodes = 6; grants = 14; steps = 76; user = 2; pairs = 0 })
   pub sample-none : cheapest (withUser 6 sample) (room 6 12 12) ≡ refuses 4 0

@@ -4,6 +4,7 @@ use mathlib.Core.Path.{_≡_, refl, ap, _∙_}
 use mathlib.Core.List.{List, []}
 use Rattle.laws.specs.Choose.{if_then_else_}
 use Rattle.night.specs.declared.Node.{Node}
+use Rattle.night.specs.Night.{Night}
 use Rattle.night.specs.Kinds.{usesRight, visibleAfter}
 use Rattle.model.specs.Candidates.{clearOffends, sealedOffends}
 use Rattle.model.specs.OneTest.{passesBoth}
@@ -24,12 +25,12 @@ module _ (v : Node) (l r : Columns) where
   close-taken f g h = rw (← f untied, ← g untied) (h untied untied)
 
   -- its columns
-  pub close-made : {taken made : Columns} → taken ≡ columnsOf (takenColumns v l r)
-      → ((tied other both : List ℕ)
-      → withTied made (tieAll both (ties v)) ≡ result v (visibleAfter v (shown (withTied l tied)) (shown (withTied r other))) (withTied taken both))
-      → made ≡ columnsOf (stepTable v (withTied l untied) (withTied r untied))
+  pub close-made : (N : Night) {taken made : Columns} → taken ≡ columnsOf (takenColumns v l r)
+      → ((M : Night) (tied other both : List ℕ)
+      → withTied made (tieAll both (ties M v)) ≡ result M v (visibleAfter v (shown (withTied l tied)) (shown (withTied r other))) (withTied taken both))
+      → made ≡ columnsOf (stepTable N v (withTied l untied) (withTied r untied))
   unfolding stepTable result
-  close-made e f = ap columnsOf (f untied untied []) ∙ rw e refl
+  close-made N e f = ap columnsOf (f N untied untied []) ∙ rw e refl
 
 -- who passes is asked of the columns alone
 pub pass-columns : (s : ℕ) (clear sealed : List ℕ) (v : Node) (l r taken : Columns) {set : ℕ} → taken ≡ columnsOf (takenColumns v l r)

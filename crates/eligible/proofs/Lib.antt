@@ -10,3 +10,4 @@ pub mod SeenHeld
 pub mod SeenOnce
 pub mod Tied
 pub mod Walks
+mod Tying

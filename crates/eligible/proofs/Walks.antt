@@ -39,26 +39,26 @@ use Rattle.eligible.proofs.Asked.{unions-same, out-night, pass-night}
 use Rattle.eligible.proofs.Fills.{fills-none, fills-node, under-leaf, under-step}
 
 -- a step's columns are what they are whatever its operands tie
-columns-free : (v : Node) (L R : Table) → columnsOf (stepTable v (withTied (columnsOf L) untied) (withTied (columnsOf R) untied)) ≡ columnsOf (stepTable v L R)
+columns-free : (N : Night) (v : Node) (L R : Table) → columnsOf (stepTable N v (withTied (columnsOf L) untied) (withTied (columnsOf R) untied)) ≡ columnsOf (stepTable N v L R)
 unfolding stepTable leastView joined result
-columns-free v L R = go (usesRight (v .kind))
+columns-free N v L R = go (usesRight (v .kind))
   where
     go : (b : Bool)
-        → columnsOf (result v (visibleAfter v (shown L) (shown R))
+        → columnsOf (result N v (visibleAfter v (shown L) (shown R))
         (if b then joined (leastView (v .needed) (withTied (columnsOf L) untied)) (leastView (v .needed) (withTied (columnsOf R) untied))
         else leastView (v .needed) (withTied (columnsOf L) untied)))
-        ≡ columnsOf (result v (visibleAfter v (shown L) (shown R)) (if b then joined (leastView (v .needed) L) (leastView (v .needed) R) else leastView (v .needed) L))
+        ≡ columnsOf (result N v (visibleAfter v (shown L) (shown R)) (if b then joined (leastView (v .needed) L) (leastView (v .needed) R) else leastView (v .needed) L))
     go true = refl
     go false = refl
 
 -- what it ties is tied into what its operands tie
-step-tied : (v : Node) (L R : Table) → stepTable v L R .tied ≡ tieAll (if usesRight (v .kind) then merged (L .tied) (R .tied) 64 else L .tied) (ties v)
+step-tied : (N : Night) (v : Node) (L R : Table) → stepTable N v L R .tied ≡ tieAll (if usesRight (v .kind) then merged (L .tied) (R .tied) 64 else L .tied) (ties N v)
 unfolding stepTable leastView joined result
-step-tied v L R = go (usesRight (v .kind))
+step-tied N v L R = go (usesRight (v .kind))
   where
     go : (b : Bool)
-        → tieAll ((if b then joined (leastView (v .needed) L) (leastView (v .needed) R) else leastView (v .needed) L) .tied) (ties v)
-        ≡ tieAll (if b then merged (L .tied) (R .tied) 64 else L .tied) (ties v)
+        → tieAll ((if b then joined (leastView (v .needed) L) (leastView (v .needed) R) else leastView (v .needed) L) .tied) (ties N v)
+        ≡ tieAll (if b then merged (L .tied) (R .tied) 64 else L .tied) (ties N v)
     go true = refl
     go false = refl
 
@@ -137,14 +137,14 @@ module _ (N : Night) (sound : Promised N) (clear sealed : List ℕ) (sees : Sees
 
     module _ (s : v .kind ≡ 0 → ⊥) where
       -- the step's table over them
-      pub step-made : tableOf N i ≡ stepTable v L R
+      pub step-made : tableOf N i ≡ stepTable N v L R
       unfolding stepTable takenBy
       step-made = table-taken N sound i l s ∙ go (usesRight (v .kind))
         where
           go : (b : Bool)
-              → result v (visibleAfter v (shown L) (if b then shown (tableOf N (v .right)) else 0))
+              → result N v (visibleAfter v (shown L) (if b then shown (tableOf N (v .right)) else 0))
               (if b then joined (leastView (v .needed) L) (leastView (v .needed) (tableOf N (v .right))) else leastView (v .needed) L)
-              ≡ result v (visibleAfter v (shown L) (shown (if b then tableOf N (v .right) else blank)))
+              ≡ result N v (visibleAfter v (shown L) (shown (if b then tableOf N (v .right) else blank)))
               (if b then joined (leastView (v .needed) L) (leastView (v .needed) (if b then tableOf N (v .right) else blank)) else leastView (v .needed) L)
           go true = refl
           go false = rw (union-none 0) refl
@@ -165,22 +165,22 @@ module _ (N : Night) (sound : Promised N) (clear sealed : List ℕ) (sees : Sees
           go false = refl
 
       -- whom condition 3 puts out
-      out-made : outAfter v (outOf N (L .tied)) (N .header .subjects) clear sealed (if usesRight (v .kind) then merged (L .tied) (R .tied) 64 else L .tied)
+      out-made : outAfter N v (outOf N (L .tied)) (N .header .subjects) clear sealed (if usesRight (v .kind) then merged (L .tied) (R .tied) 64 else L .tied)
           ≡ outOf N (tableOf N i .tied)
-      out-made = rw (step-made, step-tied v L R) (go (usesRight (v .kind)) refl)
+      out-made = rw (step-made, step-tied N v L R) (go (usesRight (v .kind)) refl)
         where
           below : v .left < i
           below = sound .node i l .left-lower (step-uses-left (v .kind) s)
 
           go : (b : Bool) → usesRight (v .kind) ≡ b
-              → (if b then unions (λ k. outAmong (N .header .subjects) clear sealed (getD (tieAll (if b then merged (L .tied) (R .tied) 64 else L .tied) (ties v)) k 0)) 64
-              else outTied (outOf N (L .tied)) (N .header .subjects) clear sealed (if b then merged (L .tied) (R .tied) 64 else L .tied) (ties v))
-              ≡ outOf N (tieAll (if b then merged (L .tied) (R .tied) 64 else L .tied) (ties v))
+              → (if b then unions (λ k. outAmong (N .header .subjects) clear sealed (getD (tieAll (if b then merged (L .tied) (R .tied) 64 else L .tied) (ties N v)) k 0)) 64
+              else outTied (outOf N (L .tied)) (N .header .subjects) clear sealed (if b then merged (L .tied) (R .tied) 64 else L .tied) (ties N v))
+              ≡ outOf N (tieAll (if b then merged (L .tied) (R .tied) 64 else L .tied) (ties N v))
           go true q =
-              unions-same _ _ 64 (λ k m. out-night N few clear sealed sees (getD (tieAll (merged (L .tied) (R .tied) 64) (ties v)) k 0))
-              ∙ sym (out-each N (tieAll (merged (L .tied) (R .tied) 64) (ties v)))
+              unions-same _ _ 64 (λ k m. out-night N few clear sealed sees (getD (tieAll (merged (L .tied) (R .tied) 64) (ties N v)) k 0))
+              ∙ sym (out-each N (tieAll (merged (L .tied) (R .tied) 64) (ties N v)))
           go false q =
-              out-tied (TiedAt N (v .left)) (L .tied) (ties v) (tied-meaning N sound (v .left) (omega (arith, below, l)))
+              out-tied (TiedAt N (v .left)) (L .tied) (ties N v) (tied-meaning N sound (v .left) (omega (arith, below, l)))
               (λ m h. tied-meaning N sound i l .small m (here h)) (outOf N (L .tied)) refl
 
       -- its candidates
@@ -191,13 +191,13 @@ module _ (N : Night) (sound : Promised N) (clear sealed : List ℕ) (sees : Sees
       -- all that is left at it
       pub closed : {u : Node} {w made : Walked} {r : Columns} {tied tied′ seals seals′ sets sets′ : List ℕ} → u ≡ v → w ≡ walkedOf N (v .left) → r ≡ columnsOf R
           → tied ≡ (if usesRight (v .kind) then merged (L .tied) (R .tied) 64 else L .tied)
-          → Closes (N .header .subjects) i u w r clear sealed tied tied′ seals seals′ sets sets′ made
+          → Closes N (N .header .subjects) i u w r clear sealed tied tied′ seals seals′ sets sets′ made
           → (made ≡ walkedOf N i) × (tied′ ≡ tableOf N i .tied) × (seals′ ≡ set seals i (clearAt N i)) × (sets′ ≡ set sets i (subjectsOf N i))
       closed {u} {w} {made} {r} {tied} {tied′} {seals} {seals′} {sets} {sets′} node left right merged-so C =
-          let columns : made .columns ≡ columnsOf (tableOf N i) = rw step-made (rw (node, left, right) at (C .columns) ∙ columns-free v L R) in
+          let columns : made .columns ≡ columnsOf (tableOf N i) = rw step-made (rw (node, left, right) at (C .columns) ∙ columns-free N v L R) in
           let out : made .out ≡ outOf N (tableOf N i .tied) = rw (node, left, merged-so) at (C .put-out) ∙ out-made in (
             (λ j. record { columns = columns j; out = out j }),
-            rw step-made (rw (node, merged-so) at (C .tied-after) ∙ sym (step-tied v L R)),
+            rw step-made (rw (node, merged-so) at (C .tied-after) ∙ sym (step-tied N v L R)),
             rw columns at (C .in-clear),
             rw (node, left, right, out, sets-made) at (C .subjects),
           )
@@ -207,7 +207,7 @@ module _ (N : Night) (sound : Promised N) (clear sealed : List ℕ) (sees : Sees
           → u ≡ v → w ≡ walkedOf N (u .left) → r ≡ columnsOf R → tied ≡ (if usesRight (u .kind) then merged (tableOf N (u .left) .tied) (R .tied) 64 else tableOf N (u .left) .tied)
           → Leaves N (Under N (u .left)) seals seals₁ sets sets₁
           → Leaves N (λ k. (usesRight (u .kind) ≡ true) × Under N (u .right) k) seals₁ seals₂ sets₁ sets₂
-          → Closes (N .header .subjects) i u w r clear sealed tied tied′ seals₂ seals₃ sets₂ sets₃ made
+          → Closes N (N .header .subjects) i u w r clear sealed tied tied′ seals₂ seals₃ sets₂ sets₃ made
           → (made ≡ walkedOf N i) × (tied′ ≡ tableOf N i .tied) × Leaves N (Under N i) seals seals₃ sets sets₃
       step-left {u} {w} {made} {r} {tied} {tied′} {seals} {seals₁} {seals₂} {seals₃} {sets} {sets₁} {sets₂} {sets₃} node left right merged-so F G C =
           let all = closed node (rw node at left) right (rw node at merged-so) C in
@@ -263,8 +263,8 @@ module _ (N : Night) (sound : Promised N) (clear sealed : List ℕ) (sees : Sees
       go true e = rw (table-leaf N i l (eqb-true _ 0 e)) refl
       go false e =
           let s = eqb-false (nodeOf N i .kind) 0 e in
-          rw (step-made i l s, step-tied (nodeOf N i) (tableOf N (nodeOf N i .left)) (rightOf N i))
-          (tied-all (ties (nodeOf N i)) _ (one-or-two (usesRight (nodeOf N i .kind)) _ _ (left (sound .node i l .left-lower (step-uses-left (nodeOf N i .kind) s)))))
+          rw (step-made i l s, step-tied N (nodeOf N i) (tableOf N (nodeOf N i .left)) (rightOf N i))
+          (tied-all (ties N (nodeOf N i)) _ (one-or-two (usesRight (nodeOf N i .kind)) _ _ (left (sound .node i l .left-lower (step-uses-left (nodeOf N i .kind) s)))))
 
   tied-below : (n i : ℕ) → i < n → i < N .header .nodes → length (tableOf N i .tied) ≡ 64
   tied-below zero i m l = absurd (omega arith)

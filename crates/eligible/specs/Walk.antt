@@ -25,11 +25,11 @@ outTied out s clear sealed tied [] = out
 outTied out s clear sealed tied (S ∷ Ss) = outTied (union out (outAmong s clear sealed (gathered tied S 64))) s clear sealed (tie tied S) Ss
 
 -- after the step: with two operands every tied set is asked
-abbrev pub outAfter : Node → ℕ → ℕ → List ℕ → List ℕ → List ℕ → ℕ
-outAfter v out s clear sealed tied =
+abbrev pub outAfter : Night → Node → ℕ → ℕ → List ℕ → List ℕ → List ℕ → ℕ
+outAfter N v out s clear sealed tied =
     if usesRight (v .kind)
-    then unions (λ k. outAmong s clear sealed (getD (tieAll tied (ties v)) k 0)) 64
-    else outTied out s clear sealed tied (ties v)
+    then unions (λ k. outAmong s clear sealed (getD (tieAll tied (ties N v)) k 0)) 64
+    else outTied out s clear sealed tied (ties N v)
 
 -- what a step has of its operands' columns: their least views, joined where there are two
 abbrev pub takenColumns : Node → Columns → Columns → Table
@@ -40,10 +40,10 @@ takenColumns v l r =
 
 -- node i's table and its subjects from what its operands have: l is the left one's columns with those whom condition 3 on it puts out, r the right one's
 -- columns
-pub record Closes (s i : ℕ) (v : Node) (l : Walked) (r : Columns) (clear sealed tied tied′ seals seals′ sets sets′ : List ℕ) (made : Walked) : Type 0 where
-  pub columns : made .columns ≡ columnsOf (stepTable v (withTied (l .columns) untied) (withTied r untied))
-  pub put-out : made .out ≡ outAfter v (l .out) s clear sealed tied
-  pub tied-after : tied′ ≡ tieAll tied (ties v)
+pub record Closes (N : Night) (s i : ℕ) (v : Node) (l : Walked) (r : Columns) (clear sealed tied tied′ seals seals′ sets sets′ : List ℕ) (made : Walked) : Type 0 where
+  pub columns : made .columns ≡ columnsOf (stepTable N v (withTied (l .columns) untied) (withTied r untied))
+  pub put-out : made .out ≡ outAfter N v (l .out) s clear sealed tied
+  pub tied-after : tied′ ≡ tieAll tied (ties N v)
   pub in-clear : seals′ ≡ set seals i (made .columns .clear)
   pub subjects : sets′ ≡ set sets i (minus (passAmong s clear sealed (takenColumns v (l .columns) r)) (made .out))
 

@@ -123,8 +123,19 @@ fn stands_later(
     let Standing::Candidate = by_right else {
         return by_right;
     };
-    let s = h.subjects;
-    let made = walk::close(s, i, v, l, r.columns, clear, sealed, tied, seals, sets);
+    let made = walk::close(
+        file,
+        h,
+        i,
+        v,
+        l,
+        r.columns,
+        clear,
+        sealed,
+        tied,
+        seals,
+        sets,
+    );
     may::standing_by(model::RESULT, made.columns, tied, sees.clear, sees.sealed)
 }
 

@@ -29,42 +29,48 @@ pub(crate) struct Walked {
     pub out: u16,
 }
 
-// The step ties what it reads together. Condition 3 then puts out those whom it put out before, and those whom the new tied set puts out.
+// The step ties what it reads together, set after set. Condition 3 then puts out those whom it put out before, and those whom each new tied set puts out.
 fn tie_step(
+    file: &[u8],
+    h: Header,
     v: Node,
     out: u16,
-    s: u8,
     clear: &[u64; 16],
     sealed: &[u64; 16],
     tied: &mut [u64; 64],
 ) -> u16
-    requires { ⌜ (s ≤ 16) × (length (now tied) ≡ 64) ⌝ }
-    ensures { λ r. ⌜ (r ≡ outTied out s (now (clear .entry)) (now (sealed .entry)) (now (tied .entry)) (ties v))
-        × (now (tied .exit) ≡ tieAll (now (tied .entry)) (ties v)) ⌝ }
+    requires { ⌜ (h .subjects ≤ 16) × (length (now tied) ≡ 64) ⌝ }
+    ensures { λ r. ⌜ (r ≡ outTied out (h .subjects) (now (clear .entry)) (now (sealed .entry)) (now (tied .entry)) (ties (nightIn (now (file .entry)) h) v))
+        × (now (tied .exit) ≡ tieAll (now (tied .entry)) (ties (nightIn (now (file .entry)) h) v)) ⌝ }
 {
-    if kinds::reads_together(v) {
-        let all = ties::tie(tied, kinds::reads(v));
-        return subjects::union(out, asks::out_by(s, clear, sealed, all));
+    let n = kinds::together(v);
+    let mut so_far = out;
+    let mut k: u8 = 0;
+    while k < n {
+        let all = ties::tie(tied, pairs::together(file, h, v, k));
+        so_far = subjects::union(so_far, asks::out_by(h.subjects, clear, sealed, all));
+        k += 1;
     }
-    out
+    so_far
 }
 
 // The same for a step of one operand or two: two may tie what neither had, so that every tied set is asked.
 fn out_after(
+    file: &[u8],
+    h: Header,
     v: Node,
     out: u16,
-    s: u8,
     clear: &[u64; 16],
     sealed: &[u64; 16],
     tied: &mut [u64; 64],
 ) -> u16
-    requires { ⌜ (s ≤ 16) × (length (now tied) ≡ 64) ⌝ }
-    ensures { λ r. ⌜ (r ≡ outAfter v out s (now (clear .entry)) (now (sealed .entry)) (now (tied .entry)))
-        × (now (tied .exit) ≡ tieAll (now (tied .entry)) (ties v)) ⌝ }
+    requires { ⌜ (h .subjects ≤ 16) × (length (now tied) ≡ 64) ⌝ }
+    ensures { λ r. ⌜ (r ≡ outAfter (nightIn (now (file .entry)) h) v out (h .subjects) (now (clear .entry)) (now (sealed .entry)) (now (tied .entry)))
+        × (now (tied .exit) ≡ tieAll (now (tied .entry)) (ties (nightIn (now (file .entry)) h) v)) ⌝ }
 {
-    let one = tie_step(v, out, s, clear, sealed, tied);
+    let one = tie_step(file, h, v, out, clear, sealed, tied);
     if kinds::uses_right(v.kind) {
-        return asks::out_by_any(s, clear, sealed, tied);
+        return asks::out_by_any(h.subjects, clear, sealed, tied);
     }
     one
 }
@@ -72,7 +78,8 @@ fn out_after(
 // Node i once its operands are walked: its table over theirs, what it has in clear, and its candidates, who pass conditions 1 and 2 of what it
 // has of its operands and 3 of its result.
 pub(crate) fn close(
-    s: u8,
+    file: &[u8],
+    h: Header,
     i: usize,
     v: Node,
     l: Walked,
@@ -83,17 +90,17 @@ pub(crate) fn close(
     seals: &mut [u64; 64],
     sets: &mut [u16; 64],
 ) -> Walked
-    requires { ⌜ (s ≤ 16) × (i < 64) × (length (now tied) ≡ 64) ⌝ }
-    ensures { λ w. ⌜ Closes s i v l r (now (clear .entry)) (now (sealed .entry)) (now (tied .entry)) (now (tied .exit))
+    requires { ⌜ (h .subjects ≤ 16) × (i < 64) × (length (now tied) ≡ 64) ⌝ }
+    ensures { λ w. ⌜ Closes (nightIn (now (file .entry)) h) (h .subjects) i v l r (now (clear .entry)) (now (sealed .entry)) (now (tied .entry)) (now (tied .exit))
         (now (seals .entry)) (now (seals .exit)) (now (sets .entry)) (now (sets .exit)) w ⌝ }
 {
     let left = parts::least_view(v.needed, l.columns);
     let right = parts::least_view(v.needed, r);
     let taken = parts::taken(v, left, right);
     let columns = parts::made(v, l.columns, r, taken);
-    let out = out_after(v, l.out, s, clear, sealed, tied);
+    let out = out_after(file, h, v, l.out, clear, sealed, tied);
     seals[i] = columns.clear;
-    sets[i] = subjects::minus(asks::passing(s, clear, sealed, taken), out);
+    sets[i] = subjects::minus(asks::passing(h.subjects, clear, sealed, taken), out);
     Walked { columns, out }
 }
 
@@ -154,7 +161,7 @@ fn walk_step(
 {
     let l = walk(file, h, v.left as usize, clear, sealed, tied, seals, sets);
     let r = walk_right(file, h, i, v, clear, sealed, tied, seals, sets);
-    close(h.subjects, i, v, l, r, clear, sealed, tied, seals, sets)
+    close(file, h, i, v, l, r, clear, sealed, tied, seals, sets)
 }
 
 // Node c, leaf or step, with all under it.

@@ -19,7 +19,7 @@ use Rattle.night.specs.declared.Grant.{Grant}
 use Rattle.night.specs.declared.Node.{Node}
 use Rattle.night.specs.Versions.{known}
 use Rattle.night.specs.Night.{noRelation, noGrant, noNode}
-use Rattle.layout.specs.Layout.{fileLength}
+use Rattle.layout.specs.Layout.{pairsIn, fileLength}
 use Rattle.rules.specs.Rules.{countsBad}
 use Rattle.writes.specs.Values.{Values, fileBytes}
 use Rattle.writes.specs.Writing.{miscounted, miscountedBy, countTrials}
@@ -45,13 +45,14 @@ zeros-long : (n : ℕ) → length (zeros n) ≡ n
 zeros-long n = length-replicate n 0
 
 -- none of 2, 4, 3 refuses
-pub record Fine (h : Header) (r g n s l : ℕ) : Type 0 where
+pub record Fine (h : Header) (r g n p s l : ℕ) : Type 0 where
   pub version : not (known (h .version)) ≡ false
   pub counts : countsBad h ≡ false
-  pub many : miscountedBy h r g n s l ≡ false
+  pub many : miscountedBy h r g n p s l ≡ false
   pub relations : r ≡ h .relations
   pub grants : g ≡ h .grants
   pub nodes : n ≡ h .nodes
+  pub pairs : p ≡ 2 * pairsIn h
   pub steps : s ≡ h .nodes * h .subjects
   pub links : l ≡ h .subjects * h .subjects
 
@@ -59,9 +60,9 @@ pub record Fine (h : Header) (r g n s l : ℕ) : Type 0 where
 refused-right : (n : ℕ) → Refused n ≡ Right → ⊥
 refused-right n e = let z : _≡_ {A = ℕ} 0 1 = cc in omega arith
 
-many-fine : (h : Header) (r g n s l : ℕ) → not (known (h .version)) ≡ false → countsBad h ≡ false → miscountedBy h r g n s l ≡ false → Fine h r g n s l
+many-fine : (h : Header) (r g n p s l : ℕ) → not (known (h .version)) ≡ false → countsBad h ≡ false → miscountedBy h r g n p s l ≡ false → Fine h r g n p s l
 unfolding miscountedBy
-many-fine h r g n s l version counts many =
+many-fine h r g n p s l version counts many =
     let t = none-of _ many in
     record {
       version = version;
@@ -70,36 +71,37 @@ many-fine h r g n s l version counts many =
       relations = eqb-true _ _ (not-false _ (t .0));
       grants = eqb-true _ _ (not-false _ (t .1 .0));
       nodes = eqb-true _ _ (not-false _ (t .1 .1 .0));
-      steps = eqb-true _ _ (not-false _ (t .1 .1 .1 .0));
-      links = eqb-true _ _ (not-false _ (t .1 .1 .1 .1 .0));
+      pairs = eqb-true _ _ (not-false _ (t .1 .1 .1 .0));
+      steps = eqb-true _ _ (not-false _ (t .1 .1 .1 .1 .0));
+      links = eqb-true _ _ (not-false _ (t .1 .1 .1 .1 .1 .0));
     }
 
-pub none-refuses : {answer : Counted} (h : Header) (r g n s l : ℕ) → answer ≡ countedAs h r g n s l → answer ≡ Right → Fine h r g n s l
+pub none-refuses : {answer : Counted} (h : Header) (r g n p s l : ℕ) → answer ≡ countedAs h r g n p s l → answer ≡ Right → Fine h r g n p s l
 unfolding countedAs
-none-refuses h r g n s l e none = go (not (known (h .version))) (countsBad h) (miscountedBy h r g n s l) refl refl refl (sym e ∙ none)
+none-refuses h r g n p s l e none = go (not (known (h .version))) (countsBad h) (miscountedBy h r g n p s l) refl refl refl (sym e ∙ none)
   where
-    go : (a b c : Bool) → not (known (h .version)) ≡ a → countsBad h ≡ b → miscountedBy h r g n s l ≡ c → (if a then Refused 2 else if b then Refused 4 else if c then Refused 3 else Right) ≡ Right → Fine h r g n s l
+    go : (a b c : Bool) → not (known (h .version)) ≡ a → countsBad h ≡ b → miscountedBy h r g n p s l ≡ c → (if a then Refused 2 else if b then Refused 4 else if c then Refused 3 else Right) ≡ Right → Fine h r g n p s l
     go true b c x y z q = absurd (refused-right 2 q)
     go false true c x y z q = absurd (refused-right 4 q)
     go false false true x y z q = absurd (refused-right 3 q)
-    go false false false x y z q = many-fine h r g n s l x y z
+    go false false false x y z q = many-fine h r g n p s l x y z
 
-module _ (vs : Values) (h : Header) (relations : List Relation) (r : ℕ) (grants : List Grant) (g : ℕ) (nodes : List Node) (n : ℕ) (steps links : List ℕ)
-    (handed : Handed vs h relations r grants g nodes n steps links) where
+module _ (vs : Values) (h : Header) (relations : List Relation) (r : ℕ) (grants : List Grant) (g : ℕ) (nodes : List Node) (n : ℕ) (pairs steps links : List ℕ)
+    (handed : Handed vs h relations r grants g nodes n pairs steps links) where
   -- the tests are of the same numbers
-  same-many : miscounted vs ≡ miscountedBy h r g n (length steps) (length links)
+  same-many : miscounted vs ≡ miscountedBy h r g n (length pairs) (length steps) (length links)
   unfolding miscounted miscountedBy
-  same-many = rw (handed .its-header, handed .relations-many, handed .grants-many, handed .nodes-many, handed .its-steps, handed .its-links) refl
+  same-many = rw (handed .its-header, handed .relations-many, handed .grants-many, handed .nodes-many, handed .its-pairs, handed .its-steps, handed .its-links) refl
 
   -- the verdict of 2, 4, 3 by these tests
   count-verdict : verdict (countTrials vs) (tt {0})
-      ≡ (if not (known (h .version)) then refuses 2 0 else if countsBad h then refuses 4 0 else if miscountedBy h r g n (length steps) (length links) then refuses 3 0 else answers tt)
+      ≡ (if not (known (h .version)) then refuses 2 0 else if countsBad h then refuses 4 0 else if miscountedBy h r g n (length pairs) (length steps) (length links) then refuses 3 0 else answers tt)
   unfolding verdict countTrials
   count-verdict = rw (← same-many, ← handed .its-header) refl
 
-  pub refused-says : {answer : Counted} (m : ℕ) → answer ≡ countedAs h r g n (length steps) (length links) → answer ≡ Refused m → EncodedSays vs answer (replicate longest 0)
+  pub refused-says : {answer : Counted} (m : ℕ) → answer ≡ countedAs h r g n (length pairs) (length steps) (length links) → answer ≡ Refused m → EncodedSays vs answer (replicate longest 0)
   unfolding countedAs
-  refused-says {answer} m e told = rw count-verdict (go (not (known (h .version))) (countsBad h) (miscountedBy h r g n (length steps) (length links)) e)
+  refused-says {answer} m e told = rw count-verdict (go (not (known (h .version))) (countsBad h) (miscountedBy h r g n (length pairs) (length steps) (length links)) e)
     where
       go : (a b c : Bool) → answer ≡ (if a then Refused 2 else if b then Refused 4 else if c then Refused 3 else Right)
           → EncodedAs (if a then refuses 2 0 else if b then refuses 4 0 else if c then refuses 3 0 else answers tt) vs answer (replicate longest 0)
@@ -112,8 +114,8 @@ module _ (vs : Values) (h : Header) (relations : List Relation) (r : ℕ) (grant
   entries : {A : Type 0} (arr xs : List A) (d : A) (count most : ℕ) → {given : ℕ} → ((k : ℕ) → k < given → k < most → getD arr k d ≡ getD xs k d) → count ≤ most → given ≡ count → length xs ≡ count → each count (λ k. getD arr k d) ≡ xs
   entries arr xs d count most same l many e = each-same (λ k. getD arr k d) (λ k. getD xs k d) count (λ k q. same k (omega arith) (omega arith)) ∙ rw (← e) (each-self xs d)
 
-  module _ (fine : Fine h r g n (length steps) (length links)) where
-    held-is : heldIn h relations grants nodes steps links ≡ vs
+  module _ (fine : Fine h r g n (length pairs) (length steps) (length links)) where
+    held-is : heldIn h relations grants nodes pairs steps links ≡ vs
     unfolding heldIn
     held-is =
         let places = places-of h (fine .counts) in
@@ -125,23 +127,24 @@ module _ (vs : Values) (h : Header) (relations : List Relation) (r : ℕ) (grant
           relations = its-relations i;
           grants = its-grants i;
           nodes = its-nodes i;
+          pairs = sym (handed .its-pairs) i;
           stepPrices = sym (handed .its-steps) i;
           linkPrices = sym (handed .its-links) i;
         }
 
-    pub encoded-says : {file : List ℕ} → Stored (replicate longest 0) file 0 (fileBytes (heldIn h relations grants nodes steps links)) → ValuesFit (heldIn h relations grants nodes steps links)
-        → EncodedSays vs Right file
-    encoded-says {file} put fits =
+    pub encoded-says : {file : List ℕ} → Stored (replicate longest 0) file 0 (fileBytes (heldIn h relations grants nodes pairs steps links)) → ValuesFit (heldIn h relations grants nodes pairs steps links)
+        → fileLength h ≤ longest → EncodedSays vs Right file
+    encoded-says {file} put fits within =
         let verdict-is : verdict (countTrials vs) (tt {0}) ≡ answers tt = count-verdict ∙ rw (fine .version, fine .counts, fine .many) refl in
         let long : length (fileBytes vs) ≡ fileLength (vs .header) = as-long vs (same-many ∙ fine .many) in
-        let short : fileLength (vs .header) ≤ longest = rw (handed .its-header) (places-of h (fine .counts) .short) in
+        let short : fileLength (vs .header) ≤ longest = rw (handed .its-header) within in
         let put-own : Stored (replicate longest 0) file 0 (fileBytes vs) = rw held-is at put in
         let front = put-own .all ∙ sets-front (fileBytes vs) (replicate longest 0) (omega (arith, long, zeros-long longest)) in
         let file-is : file ≡ fileBytes vs ++ replicate (longest - fileLength (vs .header)) 0 = front ∙ rw (long, drop-zeros (fileLength (vs .header)) longest short) refl in
         rw verdict-is (refl, file-is, rw held-is at fits)
 
 -- values that are handed in so: those that the arrays hold, as many as are said to be there
-module _ (h : Header) (relations : List Relation) (r : ℕ) (grants : List Grant) (g : ℕ) (nodes : List Node) (n : ℕ) (steps links : List ℕ) where
+module _ (h : Header) (relations : List Relation) (r : ℕ) (grants : List Grant) (g : ℕ) (nodes : List Node) (n : ℕ) (pairs steps links : List ℕ) where
   abbrev pub handedIn : Values
   handedIn =
       record {
@@ -149,11 +152,12 @@ module _ (h : Header) (relations : List Relation) (r : ℕ) (grants : List Grant
         relations = each r (λ k. getD relations k noRelation);
         grants = each g (λ k. getD grants k noGrant);
         nodes = each n (λ k. getD nodes k noNode);
+        pairs = pairs;
         stepPrices = steps;
         linkPrices = links;
       }
 
-  pub handed-in : Handed handedIn h relations r grants g nodes n steps links
+  pub handed-in : Handed handedIn h relations r grants g nodes n pairs steps links
   handed-in =
       record {
         its-header = refl;
@@ -163,14 +167,15 @@ module _ (h : Header) (relations : List Relation) (r : ℕ) (grants : List Grant
         grants-many = sym (each-length (λ k. getD grants k noGrant) g);
         its-nodes = λ k l q. sym (each-at (λ k. getD nodes k noNode) noNode k n l);
         nodes-many = sym (each-length (λ k. getD nodes k noNode) n);
+        its-pairs = refl;
         its-steps = refl;
         its-links = refl;
       }
 
 pub encoded-once : EncodedOnce
-encoded-once h relations r grants g nodes n steps links answer file answer′ file′ says says′ =
-    let vs = handedIn h relations r grants g nodes n steps links in
-    let handed = handed-in h relations r grants g nodes n steps links in
+encoded-once h relations r grants g nodes n pairs steps links answer file answer′ file′ says says′ =
+    let vs = handedIn h relations r grants g nodes n pairs steps links in
+    let handed = handed-in h relations r grants g nodes n pairs steps links in
     same (verdict (countTrials vs) tt) vs (says vs handed) (says′ vs handed)
   where
     same : (x : Says (Unit {0})) (vs : Values) → EncodedAs x vs answer file → EncodedAs x vs answer′ file′ → (answer ≡ answer′) × (file ≡ file′)

@@ -1,16 +1,18 @@
--- Where the sections stand in a file whose counts are within their limits: each right behind the one before it, and all of them within the longest file.
-use Prim.Native.Nat.{ℕ, _+_, _*_, _≤_}
+-- Where the sections stand in a file whose counts are within their limits: each right behind the one before it, and all of them within the longest file where
+-- the number of pairs is one of a byte.
+use Prim.Native.Nat.{ℕ, _+_, _*_, _<_, _≤_}
 use mathlib.Core.Path.{_≡_, refl}
-use mathlib.Core.Bool.{false}
+use mathlib.Core.Bool.{Bool, true, false}
 use native.Mathlib.Nat.{mul-le-mul}
 use native.Mathlib.Omega.{arith}
 use borrow.Author.Tests.{ltb-false}
+use Rattle.laws.specs.Choose.{if_then_else_}
 use Rattle.laws.proofs.Cases.{none-of}
 use Rattle.night.specs.declared.Header.{Header}
-use Rattle.night.specs.Versions.{headerLength}
+use Rattle.night.specs.Versions.{hasPairs, headerLength, nodeLength}
 use Rattle.rules.specs.Rules.{countsBad}
-use Rattle.layout.proofs.Written.{header-most}
-use Rattle.layout.specs.Layout.{grantsFrom, nodesFrom, stepPricesFrom, linkPricesFrom, fileLength}
+use Rattle.layout.proofs.Written.{header-most, node-most}
+use Rattle.layout.specs.Layout.{grantsFrom, nodesFrom, pairsFrom, pairsIn, stepPricesFrom, linkPricesFrom, fileLength}
 use Rattle.encoding.specs.Encoded.{mostRelations, mostGrants, mostNodes, longest}
 
 pub record Places (h : Header) : Type 0 where
@@ -21,13 +23,14 @@ pub record Places (h : Header) : Type 0 where
   pub links-few : h .subjects * h .subjects ≤ 256
   pub grants-at : grantsFrom h ≡ headerLength (h .version) + 9 * h .relations
   pub nodes-at : nodesFrom h ≡ grantsFrom h + 18 * h .grants
-  pub steps-at : stepPricesFrom h ≡ nodesFrom h + 28 * h .nodes
+  pub pairs-at : pairsFrom h ≡ nodesFrom h + nodeLength (h .version) * h .nodes
+  pub steps-at : stepPricesFrom h ≡ pairsFrom h + 2 * pairsIn h
   pub links-at : linkPricesFrom h ≡ stepPricesFrom h + 4 * (h .nodes * h .subjects)
   pub end-at : fileLength h ≡ linkPricesFrom h + 4 * (h .subjects * h .subjects)
-  pub short : fileLength h ≤ longest
+  pub short : pairsIn h < 256 → fileLength h ≤ longest
 
 pub places-of : (h : Header) → countsBad h ≡ false → Places h
-unfolding countsBad grantsFrom nodesFrom stepPricesFrom linkPricesFrom fileLength
+unfolding countsBad grantsFrom nodesFrom pairsFrom stepPricesFrom linkPricesFrom fileLength
 places-of h fine =
     let t = none-of _ fine in
     let subjects : h .subjects ≤ 16 = ltb-false 16 (h .subjects) (t .1 .0) in
@@ -37,6 +40,7 @@ places-of h fine =
     let steps : h .nodes * h .subjects ≤ 1024 = mul-le-mul {n₁ = h .nodes} {m₁ = h .subjects} {n₂ = 64} {m₂ = 16} nodes subjects in
     let links : h .subjects * h .subjects ≤ 256 = mul-le-mul {n₁ = h .subjects} {m₁ = h .subjects} {n₂ = 16} {m₂ = 16} subjects subjects in
     let start = header-most (h .version) in
+    let wide : nodeLength (h .version) * h .nodes ≤ 1920 = mul-le-mul {n₁ = nodeLength (h .version)} {m₁ = h .nodes} {n₂ = 30} {m₂ = 64} (node-most (h .version)) nodes in
     record {
       relations-few = relations;
       grants-few = grants;
@@ -45,8 +49,18 @@ places-of h fine =
       links-few = links;
       grants-at = refl;
       nodes-at = refl;
+      pairs-at = refl;
       steps-at = refl;
       links-at = refl;
       end-at = refl;
-      short = omega arith;
+      short = λ few. omega arith;
     }
+
+-- a count of one byte
+pub pairs-few : (h : Header) → h .pairs < 256 → pairsIn h < 256
+unfolding pairsIn
+pairs-few h l = go (hasPairs (h .version))
+  where
+    go : (b : Bool) → (if b then h .pairs else 0) < 256
+    go true = l
+    go false = omega arith

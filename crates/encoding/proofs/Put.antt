@@ -1,12 +1,12 @@
 -- Numbers and records as runs of stores: each run stands right behind the one before it.
-use Prim.Native.Nat.{ℕ, suc, _+_, _*_, _/_, _%_, _^_}
+use Prim.Native.Nat.{ℕ, suc, _+_, _*_, _/_, _%_, _^_, _<_}
 use mathlib.Core.Path.{_≡_, refl, sym, ap, _∙_}
 use mathlib.Core.Bool.{true, false}
-use mathlib.Core.List.{List, [], _∷_, _++_, append-assoc}
+use mathlib.Core.List.{List, [], _∷_, _++_}
 use native.Mathlib.Numerals.{add-one}
 use native.Mathlib.Omega.{arith}
-use lib.ListN.{length, length-append, set}
-use lib.Seq.{sets, length-sets}
+use lib.ListN.{length, set, take, getD}
+use lib.Seq.{sets, length-sets, take-suc, length-take-le}
 use Rattle.laws.specs.BigEndian.{bytes}
 use Rattle.laws.specs.Choose.{if_then_else_}
 use Rattle.laws.proofs.BigEndian.{bytes-length, bytes-halves}
@@ -15,7 +15,8 @@ use Rattle.night.specs.declared.Header.{Header}
 use Rattle.night.specs.declared.Relation.{Relation}
 use Rattle.night.specs.declared.Grant.{Grant}
 use Rattle.night.specs.declared.Node.{Node}
-use Rattle.night.specs.Versions.{delivers}
+use Rattle.night.specs.Versions.{delivers, hasPairs}
+use Rattle.night.proofs.Kept.{pairs-deliver}
 use Rattle.layout.specs.Layout.{headerBytes, relationBytes, grantBytes, nodeStart, nodeBytes}
 use Rattle.encoding.specs.Stored.{Stored}
 
@@ -37,6 +38,12 @@ one-put s at v = record { all = refl }
 
 pub pair-put : (s : List ℕ) (at v w : ℕ) → Stored s (set (set s at v) (at + 1) w) at (v ∷ w ∷ [])
 pair-put s at v w = record { all = rw (add-one at) refl }
+
+-- of a list of bytes, one more
+pub byte-more : {before room : List ℕ} {at i : ℕ} (xs : List ℕ) → i < length xs → Stored before room at (take i xs) → Stored before (set room (at + i) (getD xs i 0)) at (take (i + 1) xs)
+byte-more {before} {room} {at} {i} xs l so-far =
+    let more : take (i + 1) xs ≡ take i xs ++ (getD xs i 0 ∷ []) = rw (add-one i) (take-suc xs i 0 l) in
+    put-same (sym more) (put-then i (length-take-le i xs (omega arith)) so-far (one-put room (at + i) (getD xs i 0)))
 
 -- a number's two bytes
 pub two-put : (s : List ℕ) (at v : ℕ) → Stored s (set (set s at (v / 256 % 256)) (at + 1) (v % 256)) at (bytes 2 v)
@@ -76,18 +83,30 @@ start-put v s at =
     let e7 : at + 7 ≡ suc (suc (suc (suc (suc (suc (suc at)))))) = omega arith in
     record { all = rw (add-one at, e2, e3, e4, e5, e6, e7) refl }
 
-pub node-put : (v : Node) {s start done more after : List ℕ} {at : ℕ}
+pub node-put : (version : ℕ) (v : Node) {s start done more sized after : List ℕ} {at : ℕ}
     → Stored s start at (nodeStart v)
     → Stored start done (at + 8) (bytes 8 (v .set))
     → Stored done more (at + 16) (bytes 8 (v .needed))
-    → Stored more after (at + 24) (bytes 4 (v .size))
-    → Stored s after at (nodeBytes v)
-unfolding nodeBytes
-node-put v begun set-put needed-put size-put =
-    let long : length (nodeStart v ++ bytes 8 (v .set)) ≡ 16 = rw (bytes-length 8 (v .set)) refl in
-    let longer : length ((nodeStart v ++ bytes 8 (v .set)) ++ bytes 8 (v .needed)) ≡ 24 = rw (length-append, long, bytes-length 8 (v .needed)) refl in
-    put-same (append-assoc (nodeStart v ++ bytes 8 (v .set)) (bytes 8 (v .needed)) (bytes 4 (v .size)))
-    (put-then 24 longer (put-then 16 long (put-then 8 refl begun set-put) needed-put) size-put)
+    → Stored more sized (at + 24) (bytes 4 (v .size))
+    → Stored sized after (at + 28) (if hasPairs version then v .first ∷ v .count ∷ [] else [])
+    → Stored s after at (nodeBytes version v)
+unfolding nodeBytes bytes
+node-put version v begun set-put needed-put size-put names-put =
+    put-then 28 refl (put-then 24 refl (put-then 16 refl (put-then 8 refl begun set-put) needed-put) size-put) names-put
+
+-- the pairs that a node names, in a version that has them
+pub names-put : (version first count at : ℕ) (s : List ℕ) → hasPairs version ≡ true
+    → Stored s (set (set s (at + 28) first) (at + 29) count) (at + 28) (if hasPairs version then first ∷ count ∷ [] else [])
+names-put version first count at s e =
+    let next : at + 29 ≡ at + 28 + 1 = omega arith in
+    rw (e, next) (pair-put s (at + 28) first count)
+
+pub no-names-put : (version first count at : ℕ) (s : List ℕ) → hasPairs version ≡ false → Stored s s at (if hasPairs version then first ∷ count ∷ [] else [])
+no-names-put version first count at s e = rw e (record { all = refl })
+
+-- what a header has behind the steps
+abbrev lastBytes : Header → List ℕ
+lastBytes h = (if delivers (h .version) then h .user ∷ [] else []) ++ (if hasPairs (h .version) then h .pairs ∷ [] else [])
 
 -- the header, run by run
 pub header-put : (h : Header) {s marked versioned counted granted stepped after : List ℕ}
@@ -96,15 +115,19 @@ pub header-put : (h : Header) {s marked versioned counted granted stepped after 
     → Stored versioned counted 5 (h .subjects ∷ h .relations ∷ h .attributes ∷ h .nodes ∷ [])
     → Stored counted granted 9 (bytes 2 (h .grants))
     → Stored granted stepped 11 (bytes 4 (h .steps))
-    → Stored stepped after 15 (if delivers (h .version) then h .user ∷ [] else [])
+    → Stored stepped after 15 (lastBytes h)
     → Stored s after 0 (headerBytes h)
 unfolding headerBytes bytes
-header-put h mark version counts grants steps user =
-    put-then 15 refl (put-then 11 refl (put-then 9 refl (put-then 5 refl (put-then 3 refl mark version) counts) grants) steps) user
+header-put h mark version counts grants steps last =
+    put-then 15 refl (put-then 11 refl (put-then 9 refl (put-then 5 refl (put-then 3 refl mark version) counts) grants) steps) last
 
--- the user, in a version that has one
-pub user-put : (version user : ℕ) (s : List ℕ) → delivers version ≡ true → Stored s (set s 15 user) 15 (if delivers version then user ∷ [] else [])
-user-put version user s e = rw e (one-put s 15 user)
+-- what stands last in it: user and pairs, the user alone, neither
+module _ (h : Header) (s : List ℕ) where
+  pub both-put : hasPairs (h .version) ≡ true → Stored s (set (set s 15 (h .user)) 16 (h .pairs)) 15 (lastBytes h)
+  both-put e = rw (e, pairs-deliver (h .version) e) (pair-put s 15 (h .user) (h .pairs))
 
-pub no-user-put : (version user : ℕ) (s : List ℕ) → delivers version ≡ false → Stored s s 15 (if delivers version then user ∷ [] else [])
-no-user-put version user s e = rw e (record { all = refl })
+  pub user-put : hasPairs (h .version) ≡ false → delivers (h .version) ≡ true → Stored s (set s 15 (h .user)) 15 (lastBytes h)
+  user-put e d = rw (e, d) (one-put s 15 (h .user))
+
+  pub none-put : hasPairs (h .version) ≡ false → delivers (h .version) ≡ false → Stored s s 15 (lastBytes h)
+  none-put e d = rw (e, d) (record { all = refl })

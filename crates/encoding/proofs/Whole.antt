@@ -15,9 +15,9 @@ use Rattle.night.specs.declared.Header.{Header}
 use Rattle.night.specs.declared.Relation.{Relation}
 use Rattle.night.specs.declared.Grant.{Grant}
 use Rattle.night.specs.declared.Node.{Node}
-use Rattle.night.specs.Versions.{headerLength}
+use Rattle.night.specs.Versions.{headerLength, nodeLength}
 use Rattle.night.specs.Night.{noRelation, noGrant, noNode}
-use Rattle.layout.specs.Layout.{grantsFrom, nodesFrom, stepPricesFrom, linkPricesFrom, headerBytes, relationBytes, grantBytes, nodeBytes}
+use Rattle.layout.specs.Layout.{grantsFrom, nodesFrom, pairsFrom, pairsIn, stepPricesFrom, linkPricesFrom, headerBytes, relationBytes, grantBytes, nodeBytes}
 use Rattle.layout.proofs.Written.{header-long, relation-long, grant-long, node-long}
 use Rattle.writes.specs.Values.{Values, fileBytes}
 use Rattle.writes.specs.Back.{HeaderFits, RelationFits, GrantFits, NodeFits, ValuesFit}
@@ -34,7 +34,7 @@ behind {s} {done} {after} {xs} {ys} {k} {at} long e first second = put-then k lo
 long-section : {A : Type 0} (f : A → List ℕ) (w : ℕ) → ((x : A) → length (f x) ≡ w) → (g : ℕ → A) (n : ℕ) → length (inOrder f (each n g)) ≡ w * n
 long-section f w wide g n = in-order-length f w wide (each n g) ∙ ap (λ (k : ℕ). w * k) (each-length g n)
 
-module _ (h : Header) (relations : List Relation) (grants : List Grant) (nodes : List Node) (steps links : List ℕ) where
+module _ (h : Header) (relations : List Relation) (grants : List Grant) (nodes : List Node) (pairs steps links : List ℕ) where
   abbrev relationsBytes : List ℕ
   relationsBytes = inOrder relationBytes (each (h .relations) (λ k. getD relations k noRelation))
 
@@ -42,19 +42,20 @@ module _ (h : Header) (relations : List Relation) (grants : List Grant) (nodes :
   grantsBytes = inOrder grantBytes (each (h .grants) (λ k. getD grants k noGrant))
 
   abbrev nodesBytes : List ℕ
-  nodesBytes = inOrder nodeBytes (each (h .nodes) (λ k. getD nodes k noNode))
+  nodesBytes = inOrder (nodeBytes (h .version)) (each (h .nodes) (λ k. getD nodes k noNode))
 
-  pub all-put : {s s₁ s₂ s₃ s₄ s₅ s₆ : List ℕ} {a₁ a₂ a₃ a₄ a₅ : ℕ} → Places h → length steps ≡ h .nodes * h .subjects
-      → a₁ ≡ headerLength (h .version) → a₂ ≡ grantsFrom h → a₃ ≡ nodesFrom h → a₄ ≡ stepPricesFrom h → a₅ ≡ linkPricesFrom h
+  pub all-put : {s s₁ s₂ s₃ s₄ s₅ s₆ s₇ : List ℕ} {a₁ a₂ a₃ a₄ a₅ a₆ : ℕ} → Places h → length pairs ≡ 2 * pairsIn h → length steps ≡ h .nodes * h .subjects
+      → a₁ ≡ headerLength (h .version) → a₂ ≡ grantsFrom h → a₃ ≡ nodesFrom h → a₄ ≡ pairsFrom h → a₅ ≡ stepPricesFrom h → a₆ ≡ linkPricesFrom h
       → Stored s s₁ 0 (headerBytes h)
       → Stored s₁ s₂ a₁ relationsBytes
       → Stored s₂ s₃ a₂ grantsBytes
       → Stored s₃ s₄ a₃ nodesBytes
-      → Stored s₄ s₅ a₄ (inOrder (bytes 4) steps)
-      → Stored s₅ s₆ a₅ (inOrder (bytes 4) links)
-      → Stored s s₆ 0 (fileBytes (heldIn h relations grants nodes steps links))
+      → Stored s₄ s₅ a₄ pairs
+      → Stored s₅ s₆ a₅ (inOrder (bytes 4) steps)
+      → Stored s₆ s₇ a₆ (inOrder (bytes 4) links)
+      → Stored s s₇ 0 (fileBytes (heldIn h relations grants nodes pairs steps links))
   unfolding fileBytes heldIn
-  all-put places many e₁ e₂ e₃ e₄ e₅ header-put relations-put grants-put nodes-put steps-put links-put =
+  all-put places paired many e₁ e₂ e₃ e₄ e₅ e₆ header-put relations-put grants-put nodes-put pairs-put steps-put links-put =
       let H = headerBytes h in
       let R = relationsBytes in
       let G = grantsBytes in
@@ -63,10 +64,11 @@ module _ (h : Header) (relations : List Relation) (grants : List Grant) (nodes :
       let l₁ : length H ≡ headerLength (h .version) = header-long h in
       let l₂ : length (H ++ R) ≡ grantsFrom h = rw (length-append, l₁, long-section relationBytes 9 relation-long (λ k. getD relations k noRelation) (h .relations)) (sym (places .grants-at)) in
       let l₃ : length ((H ++ R) ++ G) ≡ nodesFrom h = rw (length-append (H ++ R) G, l₂, long-section grantBytes 18 grant-long (λ k. getD grants k noGrant) (h .grants)) (sym (places .nodes-at)) in
-      let l₄ : length (((H ++ R) ++ G) ++ N) ≡ stepPricesFrom h = rw (length-append ((H ++ R) ++ G) N, l₃, long-section nodeBytes 28 node-long (λ k. getD nodes k noNode) (h .nodes)) (sym (places .steps-at)) in
-      let l₅ : length ((((H ++ R) ++ G) ++ N) ++ S) ≡ linkPricesFrom h = rw (length-append (((H ++ R) ++ G) ++ N) S, l₄, in-order-length (bytes 4) 4 (bytes-length 4) steps, many) (sym (places .links-at)) in
+      let l₄ : length (((H ++ R) ++ G) ++ N) ≡ pairsFrom h = rw (length-append ((H ++ R) ++ G) N, l₃, long-section (nodeBytes (h .version)) (nodeLength (h .version)) (node-long (h .version)) (λ k. getD nodes k noNode) (h .nodes)) (sym (places .pairs-at)) in
+      let l₅ : length ((((H ++ R) ++ G) ++ N) ++ pairs) ≡ stepPricesFrom h = rw (length-append (((H ++ R) ++ G) ++ N) pairs, l₄, paired) (sym (places .steps-at)) in
+      let l₆ : length (((((H ++ R) ++ G) ++ N) ++ pairs) ++ S) ≡ linkPricesFrom h = rw (length-append ((((H ++ R) ++ G) ++ N) ++ pairs) S, l₅, in-order-length (bytes 4) 4 (bytes-length 4) steps, many) (sym (places .links-at)) in
       put-same (simp append-assoc)
-      (behind l₅ e₅ (behind l₄ e₄ (behind l₃ e₃ (behind l₂ e₂ (behind l₁ e₁ header-put relations-put) grants-put) nodes-put) steps-put) links-put)
+      (behind l₆ e₆ (behind l₅ e₅ (behind l₄ e₄ (behind l₃ e₃ (behind l₂ e₂ (behind l₁ e₁ header-put relations-put) grants-put) nodes-put) pairs-put) steps-put) links-put)
 
   -- they fit: those that are held, and what stands past them
   pub held-fits : HeaderFits h
@@ -75,7 +77,7 @@ module _ (h : Header) (relations : List Relation) (grants : List Grant) (nodes :
       → ((k : ℕ) → k < h .nodes → NodeFits (getD nodes k noNode))
       → ((k : ℕ) → getD steps k 0 < 2 ^ 32)
       → ((k : ℕ) → getD links k 0 < 2 ^ 32)
-      → ValuesFit (heldIn h relations grants nodes steps links)
+      → ValuesFit (heldIn h relations grants nodes pairs steps links)
   unfolding heldIn
   held-fits header relation grant node step link =
       record {

@@ -21,7 +21,8 @@ use Rattle.writes.specs.Back.{ValuesFit}
 use Rattle.encoding.specs.declared.Counted.{Counted}
 use Rattle.encoding.specs.declared.Counted.the-variants.{Right, Refused}
 
--- the most relations, grants and nodes that a file may have, and the length of the longest file: document 01's 11,967 and the user's byte
+-- the most relations, grants and nodes that a file may have, and the length of the longest file: document 01's 11,967, the user, and with pairs
+-- their number, two bytes more for each node, and 255 pairs
 abbrev pub mostRelations : ℕ
 mostRelations = 16
 
@@ -32,11 +33,11 @@ abbrev pub mostNodes : ℕ
 mostNodes = 64
 
 abbrev pub longest : ℕ
-longest = 11968
+longest = 12607
 
 -- these values are handed in: of each kind of record how many there are, and an array that has them as far as it goes; what it has behind them is not looked at
 pub record Handed (vs : Values) (h : Header) (relations : List Relation) (r : ℕ) (grants : List Grant) (g : ℕ) (nodes : List Node) (n : ℕ)
-    (stepPrices linkPrices : List ℕ) : Type 0 where
+    (pairs stepPrices linkPrices : List ℕ) : Type 0 where
   pub its-header : vs .header ≡ h
   pub its-relations : (k : ℕ) → k < r → k < mostRelations → getD relations k noRelation ≡ getD (vs .relations) k noRelation
   pub relations-many : r ≡ length (vs .relations)
@@ -44,27 +45,29 @@ pub record Handed (vs : Values) (h : Header) (relations : List Relation) (r : �
   pub grants-many : g ≡ length (vs .grants)
   pub its-nodes : (k : ℕ) → k < n → k < mostNodes → getD nodes k noNode ≡ getD (vs .nodes) k noNode
   pub nodes-many : n ≡ length (vs .nodes)
+  pub its-pairs : vs .pairs ≡ pairs
   pub its-steps : vs .stepPrices ≡ stepPrices
   pub its-links : vs .linkPrices ≡ linkPrices
 
 -- the values that arrays and slices hold, as many records as the header's counts say
-unfoldable pub heldIn : Header → List Relation → List Grant → List Node → List ℕ → List ℕ → Values
-heldIn h relations grants nodes stepPrices linkPrices =
+unfoldable pub heldIn : Header → List Relation → List Grant → List Node → List ℕ → List ℕ → List ℕ → Values
+heldIn h relations grants nodes pairs stepPrices linkPrices =
     record {
       header = h;
       relations = each (h .relations) (λ k. getD relations k noRelation);
       grants = each (h .grants) (λ k. getD grants k noGrant);
       nodes = each (h .nodes) (λ k. getD nodes k noNode);
+      pairs = pairs;
       stepPrices = stepPrices;
       linkPrices = linkPrices;
     }
 
 -- what is said of them: the first of 2, 4, 3 that refuses, or that there are as many as there should be
-unfoldable pub countedAs : Header → ℕ → ℕ → ℕ → ℕ → ℕ → Counted
-countedAs h relations grants nodes stepPrices linkPrices =
+unfoldable pub countedAs : Header → ℕ → ℕ → ℕ → ℕ → ℕ → ℕ → Counted
+countedAs h relations grants nodes pairs stepPrices linkPrices =
     if not (known (h .version)) then Refused 2 else
     if countsBad h then Refused 4 else
-    if miscountedBy h relations grants nodes stepPrices linkPrices then Refused 3 else
+    if miscountedBy h relations grants nodes pairs stepPrices linkPrices then Refused 3 else
     Right
 
 -- the first of 2, 4, 3 that refuses, and zeros; or none, and the file with zeros behind it, of values that fit
@@ -78,8 +81,8 @@ EncodedSays vs answer file = EncodedAs (verdict (countTrials vs) tt) vs answer f
 -- any two results of which this is so, of whatever values are handed in, are the same: there are always such values
 abbrev pub EncodedOnce : Type 0
 EncodedOnce =
-    (h : Header) (relations : List Relation) (r : ℕ) (grants : List Grant) (g : ℕ) (nodes : List Node) (n : ℕ) (stepPrices linkPrices : List ℕ)
+    (h : Header) (relations : List Relation) (r : ℕ) (grants : List Grant) (g : ℕ) (nodes : List Node) (n : ℕ) (pairs stepPrices linkPrices : List ℕ)
     (answer : Counted) (file : List ℕ) (answer′ : Counted) (file′ : List ℕ)
-    → ((vs : Values) → Handed vs h relations r grants g nodes n stepPrices linkPrices → EncodedSays vs answer file)
-    → ((vs : Values) → Handed vs h relations r grants g nodes n stepPrices linkPrices → EncodedSays vs answer′ file′)
+    → ((vs : Values) → Handed vs h relations r grants g nodes n pairs stepPrices linkPrices → EncodedSays vs answer file)
+    → ((vs : Values) → Handed vs h relations r grants g nodes n pairs stepPrices linkPrices → EncodedSays vs answer′ file′)
     → (answer ≡ answer′) × (file ≡ file′)

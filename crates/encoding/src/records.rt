@@ -8,9 +8,9 @@ use night::versions;
 ghost use Prim.Native.Nat.{_+_, _≤_};
 ghost use lib.ListN.{length};
 ghost use Rattle.encoding.specs.Stored.{Stored};
-ghost use mathlib.Core.List.{[], _∷_};
+ghost use mathlib.Core.List.{[], _∷_, _++_};
 ghost use Rattle.laws.specs.Choose.{if_then_else_};
-ghost use Rattle.night.specs.Versions.{delivers, headerLength};
+ghost use Rattle.night.specs.Versions.{delivers, hasPairs, headerLength, nodeLength};
 ghost use Rattle.layout.specs.Layout.{headerBytes, relationBytes, grantBytes, nodeStart, nodeBytes};
 ghost use Rattle.writes.specs.Back.{HeaderFits, RelationFits, GrantFits, NodeFits};
 
@@ -24,7 +24,7 @@ pub(crate) fn put_header(room: &mut [u8], h: Header)
     put_counts(room, h);
     numbers::put_two(room, 9, h.grants as u64);
     numbers::put_four(room, 11, h.steps as u64);
-    put_user(room, h);
+    put_last(room, h);
 }
 
 // The mark.
@@ -48,11 +48,17 @@ fn put_counts(room: &mut [u8], h: Header)
     room[8] = h.nodes;
 }
 
-// The user, in a version that has one.
-fn put_user(room: &mut [u8], h: Header)
+// What stands last: the user and the number of pairs, each in a version that has it.
+fn put_last(room: &mut [u8], h: Header)
     requires { ⌜ headerLength (h .version) ≤ length (now room) ⌝ }
-    ensures { λ _. ⌜ Stored (now (room .entry)) (now (room .exit)) 15 (if delivers (h .version) then h .user ∷ [] else []) ⌝ }
+    ensures { λ _. ⌜ Stored (now (room .entry)) (now (room .exit)) 15
+        ((if delivers (h .version) then h .user ∷ [] else []) ++ (if hasPairs (h .version) then h .pairs ∷ [] else [])) ⌝ }
 {
+    if versions::has_pairs(h.version) {
+        room[15] = h.user;
+        room[16] = h.pairs;
+        return;
+    }
     if versions::delivers(h.version) {
         room[15] = h.user;
         return;
@@ -79,15 +85,28 @@ pub(crate) fn put_grant(room: &mut [u8], at: usize, v: Grant)
     numbers::put_eight(room, at + 10, v.sealed);
 }
 
-// A node's record.
-pub(crate) fn put_node(room: &mut [u8], at: usize, v: Node)
-    requires { ⌜ at + 28 ≤ length (now room) ⌝ }
-    ensures { λ _. ⌜ Stored (now (room .entry)) (now (room .exit)) at (nodeBytes v) × NodeFits v ⌝ }
+// A node's record, in this version.
+pub(crate) fn put_node(room: &mut [u8], at: usize, v: Node, version: u16)
+    requires { ⌜ at + nodeLength version ≤ length (now room) ⌝ }
+    ensures { λ _. ⌜ Stored (now (room .entry)) (now (room .exit)) at (nodeBytes version v) × NodeFits v ⌝ }
 {
     put_start(room, at, v);
     numbers::put_eight(room, at + 8, v.set);
     numbers::put_eight(room, at + 16, v.needed);
     numbers::put_four(room, at + 24, v.size as u64);
+    put_names(room, at, v, version);
+}
+
+// What a node that stands at `at` ends with: the first pair that it names and how many, in a version that has pairs.
+fn put_names(room: &mut [u8], at: usize, v: Node, version: u16)
+    requires { ⌜ at + nodeLength version ≤ length (now room) ⌝ }
+    ensures { λ _. ⌜ Stored (now (room .entry)) (now (room .exit)) (at + 28) (if hasPairs version then v .first ∷ v .count ∷ [] else []) ⌝ }
+{
+    if versions::has_pairs(version) {
+        room[at + 28] = v.first;
+        room[at + 29] = v.count;
+        return;
+    }
 }
 
 // What a node begins with: its fields of one byte.

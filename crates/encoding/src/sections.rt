@@ -15,6 +15,7 @@ ghost use Rattle.encoding.specs.Stored.{Stored};
 ghost use Rattle.laws.specs.BigEndian.{bytes};
 ghost use Rattle.laws.specs.InOrder.{inOrder};
 ghost use Rattle.laws.specs.Upwards.{each};
+ghost use Rattle.night.specs.Versions.{nodeLength};
 ghost use Rattle.night.specs.Night.{noRelation, noGrant, noNode};
 ghost use Rattle.layout.specs.Layout.{relationBytes, grantBytes, nodeBytes};
 ghost use Rattle.writes.specs.Back.{RelationFits, GrantFits, NodeFits};
@@ -53,16 +54,35 @@ pub(crate) fn put_grants(room: &mut [u8], at: usize, grants: [Grant; MOST_GRANTS
     }
 }
 
-// The first n nodes.
-pub(crate) fn put_nodes(room: &mut [u8], at: usize, nodes: [Node; MOST_NODES], n: usize)
-    requires { ⌜ (n ≤ mostNodes) × (at + 28 * n ≤ length (now room)) ⌝ }
-    ensures { λ _. ⌜ Stored (now (room .entry)) (now (room .exit)) at (inOrder nodeBytes (each n (λ k. getD nodes k noNode)))
+// The first n nodes, in this version.
+pub(crate) fn put_nodes(
+    room: &mut [u8],
+    at: usize,
+    nodes: [Node; MOST_NODES],
+    n: usize,
+    version: u16,
+)
+    requires { ⌜ (n ≤ mostNodes) × (at + nodeLength version * n ≤ length (now room)) ⌝ }
+    ensures { λ _. ⌜ Stored (now (room .entry)) (now (room .exit)) at (inOrder (nodeBytes version) (each n (λ k. getD nodes k noNode)))
         × ((k : ℕ) → k < n → NodeFits (getD nodes k noNode)) ⌝ }
 {
     let mut i: usize = 0;
     while i < n {
         let v = nodes[i];
-        records::put_node(room, at + versions::NODE_LENGTH * i, v);
+        let before = versions::nodes_length(version, i as u8);
+        records::put_node(room, at + before, v, version);
+        i += 1;
+    }
+}
+
+// The pairs, as they are handed.
+pub(crate) fn put_pairs(room: &mut [u8], at: usize, pairs: &[u8])
+    requires { ⌜ at + length (now pairs) ≤ length (now room) ⌝ }
+    ensures { λ _. ⌜ Stored (now (room .entry)) (now (room .exit)) at (now (pairs .entry)) ⌝ }
+{
+    let mut i: usize = 0;
+    while i < pairs.len() {
+        room[at + i] = pairs[i];
         i += 1;
     }
 }

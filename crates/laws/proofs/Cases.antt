@@ -2,7 +2,7 @@
 use Prim.Native.Nat.{ℕ, _<_, _≤_}
 use mathlib.Core.Path.{_≡_, refl}
 use mathlib.Core.Bool.{Bool, true, false, not}
-use mathlib.Core.List.{List, [], _∷_, map}
+use mathlib.Core.List.{List, [], _∷_}
 use native.Mathlib.Omega.{arith}
 use lib.Dec.{ltb, eqb}
 use borrow.Author.Tests.{lt-ltb, le-ltb, le-leb, lt-leb, eq-eqb, ne-eqb}
@@ -33,19 +33,12 @@ not-yes b e = rw e refl
 pub not-no : (b : Bool) → b ≡ false → not b ≡ true
 not-no b e = rw e refl
 
--- of tests on the elements of a list that is chosen
-pub yes-any : (f : ℕ → Bool) (b r : Bool) (xs ys : List ℕ) → b ≡ true → r ≡ anyOf (map f xs) → r ≡ anyOf (map f (if b then xs else ys))
-yes-any f b r xs ys e p = rw e p
-
-pub no-any : (f : ℕ → Bool) (b r : Bool) (xs ys : List ℕ) → b ≡ false → r ≡ anyOf (map f ys) → r ≡ anyOf (map f (if b then xs else ys))
-no-any f b r xs ys e p = rw e p
-
 -- the last of several tests, of which one is enough
 pub last-is : (b r : Bool) → r ≡ b → r ≡ (if b then true else false)
 last-is true r e = e
 last-is false r e = e
 
-pub ruleset cases = (yes-is, no-is, yes-any, no-any, last-is, lt-ltb, le-ltb, le-leb, lt-leb, eq-eqb, ne-eqb, ne-bad, eq-fine, lt-fine, le-bad, not-yes, not-no)
+pub ruleset cases = (yes-is, no-is, last-is, lt-ltb, le-ltb, le-leb, lt-leb, eq-eqb, ne-eqb, ne-bad, eq-fine, lt-fine, le-bad, not-yes, not-no)
 
 -- none of the tests holds
 abbrev pub NoneOf : List Bool → Type 0

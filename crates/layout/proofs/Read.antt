@@ -2,7 +2,8 @@
 use Prim.Native.Nat.{ℕ, _+_, _*_, _<_, _≤_}
 use native.Mathlib.Nat.{add-zero}
 use native.Mathlib.Omega.{arith}
-use mathlib.Core.Path.{_≡_, _∙_, ap, sym}
+use mathlib.Core.Path.{_≡_, refl, _∙_, ap, sym}
+use mathlib.Core.Bool.{Bool, true, false}
 use mathlib.Core.List.{List}
 use lib.ListN.{getD}
 use Rattle.laws.specs.BigEndian.{be}
@@ -11,13 +12,14 @@ use Rattle.night.specs.declared.Header.{Header}
 use Rattle.night.specs.declared.Relation.{Relation}
 use Rattle.night.specs.declared.Grant.{Grant}
 use Rattle.night.specs.declared.Node.{Node}
-use Rattle.night.specs.Versions.{delivers, headerLength}
-use Rattle.night.specs.Night.{relationOf, grantOf, nodeOf, stepPrice, linkPrice}
-use Rattle.layout.specs.Layout.{grantsFrom, nodesFrom, stepPricesFrom, headerOf, relationAt, grantAt, nodeAt, nthPrice, nightIn}
+use Rattle.night.specs.declared.Pair.{Pair}
+use Rattle.night.specs.Versions.{delivers, hasPairs, headerLength, nodeLength}
+use Rattle.night.specs.Night.{relationOf, grantOf, nodeOf, pairOf, stepPrice, linkPrice}
+use Rattle.layout.specs.Layout.{grantsFrom, nodesFrom, pairsFrom, pairsIn, stepPricesFrom, headerOf, relationAt, grantAt, nodeAt, pairAt, nthPrice, nightIn}
 use Rattle.laws.proofs.BigEndian.{be-copied}
-use Rattle.layout.proofs.Sections.{relation-at, grant-at, node-at, price-in, step-price-in, link-price-in}
+use Rattle.layout.proofs.Sections.{relation-at, grant-at, node-at, pair-at, price-in, step-price-in, link-price-in}
 
-pub header-made : {v p r a n g m u : ℕ} (s : List ℕ)
+pub header-made : {v p r a n g m u q : ℕ} (s : List ℕ)
     → v ≡ be s 3 2
     → p ≡ getD s 5 0
     → r ≡ getD s 6 0
@@ -26,10 +28,12 @@ pub header-made : {v p r a n g m u : ℕ} (s : List ℕ)
     → g ≡ be s 9 2
     → m ≡ be s 11 4
     → u ≡ (if delivers v then getD s 15 0 else 0)
-    → _≡_ {A = Header} (record { version = v; subjects = p; relations = r; attributes = a; nodes = n; grants = g; steps = m; user = u }) (headerOf s)
+    → q ≡ (if hasPairs v then getD s 16 0 else 0)
+    → _≡_ {A = Header} (record { version = v; subjects = p; relations = r; attributes = a; nodes = n; grants = g; steps = m; user = u; pairs = q }) (headerOf s)
 unfolding headerOf
-header-made s version subjects relations attributes nodes grants steps user =
+header-made s version subjects relations attributes nodes grants steps user pairs =
     let there = user ∙ ap (λ (n : ℕ). if delivers n then getD s 15 0 else 0) version in
+    let many = pairs ∙ ap (λ (n : ℕ). if hasPairs n then getD s 16 0 else 0) version in
     λ i. record {
       version = version i;
       subjects = subjects i;
@@ -39,11 +43,12 @@ header-made s version subjects relations attributes nodes grants steps user =
       grants = grants i;
       steps = steps i;
       user = there i;
+      pairs = many i;
     }
 
 -- a node at its place with these numbers, each of which is read by a call
-abbrev nodeWith : List ℕ → ℕ → ℕ → ℕ → ℕ → Node
-nodeWith s at set needed size =
+abbrev nodeWith : List ℕ → ℕ → ℕ → ℕ → ℕ → ℕ → ℕ → Node
+nodeWith s at set needed size first count =
     record {
       kind = getD s at 0;
       left = getD s (at + 1) 0;
@@ -56,15 +61,23 @@ nodeWith s at set needed size =
       set = set;
       needed = needed;
       size = size;
+      first = first;
+      count = count;
     }
 
-pub node-made : {u v w : ℕ} (s : List ℕ) (at : ℕ)
+pub node-made : {u v w f c : ℕ} {b : Bool} (version : ℕ) (s : List ℕ) (at : ℕ)
+    → b ≡ hasPairs version
     → u ≡ be s (at + 8) 8
     → v ≡ be s (at + 16) 8
     → w ≡ be s (at + 24) 4
-    → nodeWith s at u v w ≡ nodeAt s at
+    → f ≡ (if b then getD s (at + 28) 0 else 0)
+    → c ≡ (if b then getD s (at + 29) 0 else 0)
+    → nodeWith s at u v w f c ≡ nodeAt version s at
 unfolding nodeAt
-node-made s at set needed size = λ i. nodeWith s at (set i) (needed i) (size i)
+node-made version s at paired set needed size first count =
+    let its-first = first ∙ ap (λ (b : Bool). if b then getD s (at + 28) 0 else 0) paired in
+    let its-count = count ∙ ap (λ (b : Bool). if b then getD s (at + 29) 0 else 0) paired in
+    λ i. nodeWith s at (set i) (needed i) (size i) (its-first i) (its-count i)
 
 -- a record read out of p, a copy of w bytes of s from `at` on, as many as it has or more
 module _ (w : ℕ) (s : List ℕ) (at : ℕ) (p : List ℕ) (copied : (k : ℕ) → k < w → getD p k 0 ≡ getD s (at + k) 0) where
@@ -82,9 +95,19 @@ module _ (w : ℕ) (s : List ℕ) (at : ℕ) (p : List ℕ) (copied : (k : ℕ) 
   unfolding grantAt
   grant-copied l = cc (first (omega arith), copied 1 (omega arith), number 2 8 (omega arith), number 10 8 (omega arith))
 
-  pub node-copied : 28 ≤ w → nodeAt p 0 ≡ nodeAt s at
-  unfolding nodeAt
-  node-copied l =
+  -- the pairs that a node names, where its version has them
+  names-copied : (b : Bool) → (if b then 30 else 28) ≤ w
+      → (28 ≤ w)
+      × ((if b then getD p 28 0 else 0) ≡ (if b then getD s (at + 28) 0 else 0))
+      × ((if b then getD p 29 0 else 0) ≡ (if b then getD s (at + 29) 0 else 0))
+  names-copied true l = (omega arith, copied 28 (omega arith), copied 29 (omega arith))
+  names-copied false l = (l, refl, refl)
+
+  pub node-copied : (version : ℕ) → nodeLength version ≤ w → nodeAt version p 0 ≡ nodeAt version s at
+  unfolding nodeAt nodeLength
+  node-copied version l =
+      let names = names-copied (hasPairs version) l in
+      let long = names .0 in
       cc (
         first (omega arith),
         copied 1 (omega arith),
@@ -97,6 +120,8 @@ module _ (w : ℕ) (s : List ℕ) (at : ℕ) (p : List ℕ) (copied : (k : ℕ) 
         number 8 8 (omega arith),
         number 16 8 (omega arith),
         number 24 4 (omega arith),
+        names .1,
+        names .2,
       )
 
 -- at a number of its section
@@ -111,8 +136,11 @@ module _ (s : List ℕ) (h : Header) (i : ℕ) where
   pub grant-read : {from : ℕ} {v : Grant} → i < h .grants → from ≡ grantsFrom h → v ≡ grantAt s (from + 18 * i) → v ≡ grantOf (nightIn s h) i
   grant-read l from there = there ∙ ap (λ (g : ℕ). grantAt s (g + 18 * i)) from ∙ sym (grant-at s h i l)
 
-  pub node-read : {from : ℕ} {v : Node} → i < h .nodes → from ≡ nodesFrom h → v ≡ nodeAt s (from + 28 * i) → v ≡ nodeOf (nightIn s h) i
-  node-read l from there = there ∙ ap (λ (g : ℕ). nodeAt s (g + 28 * i)) from ∙ sym (node-at s h i l)
+  pub node-read : {from long : ℕ} {v : Node} → i < h .nodes → from ≡ nodesFrom h → long ≡ nodeLength (h .version) * i → v ≡ nodeAt (h .version) s (from + long) → v ≡ nodeOf (nightIn s h) i
+  node-read l from long there = there ∙ (λ j. nodeAt (h .version) s (from j + long j)) ∙ sym (node-at s h i l)
+
+  pub pair-read : {from : ℕ} {v : Pair} → i < pairsIn h → from ≡ pairsFrom h → v ≡ pairAt s (from + 2 * i) → v ≡ pairOf (nightIn s h) i
+  pair-read l from there = there ∙ ap (λ (g : ℕ). pairAt s (g + 2 * i)) from ∙ sym (pair-at s h i l)
 
   pub price-read : {from v : ℕ}
       → i < h .nodes * h .subjects + h .subjects * h .subjects

@@ -12,9 +12,9 @@ use Rattle.laws.specs.BigEndian.{be}
 use Rattle.laws.specs.Upwards.{each}
 use Rattle.laws.proofs.Upwards.{each-at, each-past}
 use Rattle.night.specs.declared.Header.{Header}
-use Rattle.night.specs.Versions.{headerLength}
-use Rattle.night.specs.Night.{relationOf, grantOf, nodeOf, stepPrice, linkPrice, noRelation, noGrant, noNode}
-use Rattle.layout.specs.Layout.{grantsFrom, nodesFrom, stepPricesFrom, linkPricesFrom, relationAt, grantAt, nodeAt, pricesAt, nthPrice, nightIn}
+use Rattle.night.specs.Versions.{headerLength, nodeLength}
+use Rattle.night.specs.Night.{relationOf, grantOf, nodeOf, pairOf, stepPrice, linkPrice, noRelation, noGrant, noNode, noPair}
+use Rattle.layout.specs.Layout.{grantsFrom, nodesFrom, pairsFrom, pairsIn, stepPricesFrom, linkPricesFrom, relationAt, grantAt, nodeAt, pairAt, pricesAt, nthPrice, nightIn}
 
 -- the product of two numbers below 256
 pub product-lt : (a b : ℕ) → a < 256 → b < 256 → a * b < 65536
@@ -76,13 +76,21 @@ module _ (s : List ℕ) (h : Header) (i : ℕ) where
   unfolding grantOf nightIn
   grant-past l = each-past (λ k. grantAt s (grantsFrom h + 18 * k)) noGrant i (h .grants) l
 
-  pub node-at : i < h .nodes → nodeOf (nightIn s h) i ≡ nodeAt s (nodesFrom h + 28 * i)
+  pub node-at : i < h .nodes → nodeOf (nightIn s h) i ≡ nodeAt (h .version) s (nodesFrom h + nodeLength (h .version) * i)
   unfolding nodeOf nightIn
-  node-at l = each-at (λ k. nodeAt s (nodesFrom h + 28 * k)) noNode i (h .nodes) l
+  node-at l = each-at (λ k. nodeAt (h .version) s (nodesFrom h + nodeLength (h .version) * k)) noNode i (h .nodes) l
 
   pub node-past : h .nodes ≤ i → nodeOf (nightIn s h) i ≡ noNode
   unfolding nodeOf nightIn
-  node-past l = each-past (λ k. nodeAt s (nodesFrom h + 28 * k)) noNode i (h .nodes) l
+  node-past l = each-past (λ k. nodeAt (h .version) s (nodesFrom h + nodeLength (h .version) * k)) noNode i (h .nodes) l
+
+  pub pair-at : i < pairsIn h → pairOf (nightIn s h) i ≡ pairAt s (pairsFrom h + 2 * i)
+  unfolding pairOf nightIn
+  pair-at l = each-at (λ k. pairAt s (pairsFrom h + 2 * k)) noPair i (pairsIn h) l
+
+  pub pair-past : pairsIn h ≤ i → pairOf (nightIn s h) i ≡ noPair
+  unfolding pairOf nightIn
+  pair-past l = each-past (λ k. pairAt s (pairsFrom h + 2 * k)) noPair i (pairsIn h) l
 
   pub step-price-in : (p : ℕ) → i < h .nodes → p < h .subjects → stepPrice (nightIn s h) i p ≡ nthPrice s h (i * h .subjects + p)
   unfolding stepPrice nightIn

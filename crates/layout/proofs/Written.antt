@@ -15,8 +15,9 @@ use Rattle.night.specs.declared.Header.{Header}
 use Rattle.night.specs.declared.Relation.{Relation}
 use Rattle.night.specs.declared.Grant.{Grant}
 use Rattle.night.specs.declared.Node.{Node}
-use Rattle.night.specs.Versions.{delivers, headerLength}
-use Rattle.layout.specs.Layout.{headerOf, headerBytes, asRead, relationAt, relationBytes, grantAt, grantBytes, nodeAt, nodeStart, nodeBytes}
+use Rattle.night.specs.Versions.{delivers, hasPairs, headerLength, nodeLength}
+use Rattle.night.proofs.Kept.{pairs-deliver}
+use Rattle.layout.specs.Layout.{pairsIn, headerOf, headerBytes, asRead, relationAt, relationBytes, grantAt, grantBytes, nodeAt, nodeStart, nodeBytes, nodeAsRead}
 
 -- how many
 pub relation-long : (v : Relation) → length (relationBytes v) ≡ 9
@@ -27,57 +28,87 @@ pub grant-long : (v : Grant) → length (grantBytes v) ≡ 18
 unfolding grantBytes
 grant-long v = rw (length-append, bytes-length 8 (v .clear), bytes-length 8 (v .sealed)) refl
 
-pub node-long : (v : Node) → length (nodeBytes v) ≡ 28
-unfolding nodeBytes
-node-long v =
-    rw (
-      length-append (nodeStart v) (bytes 8 (v .set) ++ (bytes 8 (v .needed) ++ bytes 4 (v .size))),
-      length-append (bytes 8 (v .set)) (bytes 8 (v .needed) ++ bytes 4 (v .size)),
-      bytes-length 8 (v .set),
-      length-append (bytes 8 (v .needed)) (bytes 4 (v .size)),
-      bytes-length 8 (v .needed),
-      bytes-length 4 (v .size),
-    ) refl
+-- the pairs that a node names, where its version has them
+abbrev named : Bool → ℕ → ℕ → List ℕ
+named b first count = if b then first ∷ count ∷ [] else []
 
-pub header-long : (h : Header) → length (headerBytes h) ≡ headerLength (h .version)
-unfolding headerBytes headerLength
-header-long h = simp (length-append, bytes-length) (go (delivers (h .version)))
+pub node-long : (version : ℕ) (v : Node) → length (nodeBytes version v) ≡ nodeLength version
+unfolding nodeBytes nodeLength
+node-long version v = simp (length-append, bytes-length) (go (hasPairs version))
   where
-    go : (b : Bool) → suc (suc (suc (2 + suc (suc (suc (suc (2 + (4 + length (if b then h .user ∷ [] else []))))))))) ≡ (if b then 16 else 15)
+    go : (b : Bool) → suc (suc (suc (suc (suc (suc (suc (suc (8 + (8 + (4 + length (named b (v .first) (v .count)))))))))))) ≡ (if b then 30 else 28)
     go true = refl
     go false = refl
 
--- between fifteen and sixteen
+-- what a header has behind the steps, where its version has it
+abbrev behind : Bool → Bool → ℕ → ℕ → List ℕ
+behind d p user pairs = (if d then user ∷ [] else []) ++ (if p then pairs ∷ [] else [])
+
+pub header-long : (h : Header) → length (headerBytes h) ≡ headerLength (h .version)
+unfolding headerBytes headerLength
+header-long h = simp (length-append, bytes-length) (go (delivers (h .version)) (hasPairs (h .version)) (pairs-deliver (h .version)))
+  where
+    go : (d p : Bool) → (p ≡ true → d ≡ true)
+        → suc (suc (suc (2 + suc (suc (suc (suc (2 + (4 + (length (if d then h .user ∷ [] else []) + length (if p then h .pairs ∷ [] else [])))))))))) ≡ (if p then 17 else if d then 16 else 15)
+    go true true f = refl
+    go true false f = refl
+    go false true f = absurd (let z : _≡_ {A = ℕ} 0 1 = cc (f refl) in omega arith)
+    go false false f = refl
+
+-- between fifteen and seventeen
 pub header-least : (version : ℕ) → 15 ≤ headerLength version
 unfolding headerLength
-header-least version = go (delivers version)
+header-least version = go (hasPairs version) (delivers version)
   where
-    go : (b : Bool) → 15 ≤ (if b then 16 else 15)
+    go : (p d : Bool) → 15 ≤ (if p then 17 else if d then 16 else 15)
+    go true d = omega arith
+    go false true = omega arith
+    go false false = omega arith
+
+pub header-most : (version : ℕ) → headerLength version ≤ 17
+unfolding headerLength
+header-most version = go (hasPairs version) (delivers version)
+  where
+    go : (p d : Bool) → (if p then 17 else if d then 16 else 15) ≤ 17
+    go true d = omega arith
+    go false true = omega arith
+    go false false = omega arith
+
+-- between twenty-eight and thirty
+pub node-least : (version : ℕ) → 28 ≤ nodeLength version
+unfolding nodeLength
+node-least version = go (hasPairs version)
+  where
+    go : (b : Bool) → 28 ≤ (if b then 30 else 28)
     go true = omega arith
     go false = omega arith
 
-pub header-most : (version : ℕ) → headerLength version ≤ 16
-unfolding headerLength
-header-most version = go (delivers version)
+pub node-most : (version : ℕ) → nodeLength version ≤ 30
+unfolding nodeLength
+node-most version = go (hasPairs version)
   where
-    go : (b : Bool) → (if b then 16 else 15) ≤ 16
+    go : (b : Bool) → (if b then 30 else 28) ≤ 30
     go true = omega arith
     go false = omega arith
 
 -- read after write, whatever stands behind the header
-user-back : (v w u : ℕ) (rest : List ℕ) → w ≡ v
-    → (if delivers w then getD ((if delivers v then u ∷ [] else []) ++ rest) 0 0 else 0) ≡ (if delivers v then u else 0)
-user-back v w u rest e = rw e (go (delivers v))
+behind-back : (v w u q : ℕ) (rest : List ℕ) → w ≡ v
+    → ((if delivers w then getD (behind (delivers v) (hasPairs v) u q ++ rest) 0 0 else 0) ≡ (if delivers v then u else 0))
+    × ((if hasPairs w then getD (behind (delivers v) (hasPairs v) u q ++ rest) 1 0 else 0) ≡ (if hasPairs v then q else 0))
+behind-back v w u q rest e = rw e (go (delivers v) (hasPairs v) (pairs-deliver v))
   where
-    go : (b : Bool) → (if b then getD ((if b then u ∷ [] else []) ++ rest) 0 0 else 0) ≡ (if b then u else 0)
-    go true = refl
-    go false = refl
+    go : (d p : Bool) → (p ≡ true → d ≡ true)
+        → ((if d then getD (behind d p u q ++ rest) 0 0 else 0) ≡ (if d then u else 0)) × ((if p then getD (behind d p u q ++ rest) 1 0 else 0) ≡ (if p then q else 0))
+    go true true f = (refl, refl)
+    go true false f = (refl, refl)
+    go false true f = absurd (let z : _≡_ {A = ℕ} 0 1 = cc (f refl) in omega arith)
+    go false false f = (refl, refl)
 
 pub header-back : (h : Header) (rest : List ℕ) → h .version < 2 ^ 16 → h .grants < 2 ^ 16 → h .steps < 2 ^ 32 → headerOf (headerBytes h ++ rest) ≡ asRead h
-unfolding be bytes headerOf headerBytes asRead
+unfolding be bytes headerOf headerBytes asRead pairsIn
 header-back h rest version grants steps =
     let its-version = be-bytes 2 (h .version) version in
-    let its-user = user-back (h .version) (be (bytes 2 (h .version)) 0 2) (h .user) rest its-version in
+    let its-last = behind-back (h .version) (be (bytes 2 (h .version)) 0 2) (h .user) (h .pairs) rest its-version in
     λ i. record {
       version = its-version i;
       subjects = h .subjects;
@@ -86,7 +117,8 @@ header-back h rest version grants steps =
       nodes = h .nodes;
       grants = be-bytes 2 (h .grants) grants i;
       steps = be-bytes 4 (h .steps) steps i;
-      user = its-user i;
+      user = its-last .0 i;
+      pairs = its-last .1 i;
     }
 
 -- of a record alone
@@ -99,9 +131,15 @@ unfolding be bytes grantAt grantBytes
 grant-back v clear sealed =
     λ i. record { relation = v .relation; subject = v .subject; clear = be-bytes 8 (v .clear) clear i; sealed = be-bytes 8 (v .sealed) sealed i }
 
-pub node-back : (v : Node) → v .set < 2 ^ 64 → v .needed < 2 ^ 64 → v .size < 2 ^ 32 → nodeAt (nodeBytes v) 0 ≡ v
-unfolding be bytes nodeAt nodeBytes
-node-back v set needed size =
+named-back : (b : Bool) (first count : ℕ)
+    → ((if b then getD (named b first count) 0 0 else 0) ≡ (if b then first else 0)) × ((if b then getD (named b first count) 1 0 else 0) ≡ (if b then count else 0))
+named-back true first count = (refl, refl)
+named-back false first count = (refl, refl)
+
+pub node-back : (version : ℕ) (v : Node) → v .set < 2 ^ 64 → v .needed < 2 ^ 64 → v .size < 2 ^ 32 → nodeAt version (nodeBytes version v) 0 ≡ nodeAsRead version v
+unfolding be bytes nodeAt nodeBytes nodeAsRead
+node-back version v set needed size =
+    let names = named-back (hasPairs version) (v .first) (v .count) in
     λ i. record {
       kind = v .kind;
       left = v .left;
@@ -114,6 +152,8 @@ node-back v set needed size =
       set = be-bytes 8 (v .set) set i;
       needed = be-bytes 8 (v .needed) needed i;
       size = be-bytes 4 (v .size) size i;
+      first = names .0 i;
+      count = names .1 i;
     }
 
 -- write after read: of a list of bytes that has the whole record
@@ -139,30 +179,46 @@ module _ (s : List ℕ) (all : (k : ℕ) → getD s k 0 < 256) (at : ℕ) where
   unfolding grantAt grantBytes
   grant-again l = rw (begins 17 (omega arith), one 1 16 (omega arith), number 2 8 8 (omega arith), last 10 8 (omega arith)) refl
 
-  pub node-again : at + 28 ≤ length s → nodeBytes (nodeAt s at) ≡ take 28 (drop at s)
-  unfolding nodeAt nodeBytes
-  node-again l =
+  -- a node, and n bytes behind its size
+  node-start : (n : ℕ) → at + 28 ≤ length s
+      → take (suc (suc (suc (suc (suc (suc (suc (suc (8 + (8 + (4 + n))))))))))) (drop at s)
+      ≡ getD s at 0 ∷ getD s (at + 1) 0 ∷ getD s (at + 2) 0 ∷ getD s (at + 3) 0 ∷ getD s (at + 4) 0 ∷ getD s (at + 5) 0 ∷ getD s (at + 6) 0 ∷ getD s (at + 7) 0
+      ∷ (bytes 8 (be s (at + 8) 8) ++ (bytes 8 (be s (at + 16) 8) ++ (bytes 4 (be s (at + 24) 4) ++ take n (drop (at + 28) s))))
+  node-start n l =
+      let w = 8 + (8 + (4 + n)) in
       rw (
-        begins 27 (omega arith),
-        one 1 26 (omega arith),
-        one 2 25 (omega arith),
-        one 3 24 (omega arith),
-        one 4 23 (omega arith),
-        one 5 22 (omega arith),
-        one 6 21 (omega arith),
-        one 7 20 (omega arith),
-        number 8 8 12 (omega arith),
-        number 16 8 4 (omega arith),
-        last 24 4 (omega arith),
+        begins (suc (suc (suc (suc (suc (suc (suc w))))))) (omega arith),
+        one 1 (suc (suc (suc (suc (suc (suc w)))))) (omega arith),
+        one 2 (suc (suc (suc (suc (suc w))))) (omega arith),
+        one 3 (suc (suc (suc (suc w)))) (omega arith),
+        one 4 (suc (suc (suc w))) (omega arith),
+        one 5 (suc (suc w)) (omega arith),
+        one 6 (suc w) (omega arith),
+        one 7 w (omega arith),
+        number 8 8 (8 + (4 + n)) (omega arith),
+        number 16 8 (4 + n) (omega arith),
+        number 24 4 n (omega arith),
       ) refl
+
+  pub node-again : (version : ℕ) → at + nodeLength version ≤ length s → nodeBytes version (nodeAt version s at) ≡ take (nodeLength version) (drop at s)
+  unfolding nodeAt nodeBytes nodeLength
+  node-again version l = go (hasPairs version) l
+    where
+      go : (b : Bool) → at + (if b then 30 else 28) ≤ length s
+          → getD s at 0 ∷ getD s (at + 1) 0 ∷ getD s (at + 2) 0 ∷ getD s (at + 3) 0 ∷ getD s (at + 4) 0 ∷ getD s (at + 5) 0 ∷ getD s (at + 6) 0 ∷ getD s (at + 7) 0
+          ∷ (bytes 8 (be s (at + 8) 8) ++ (bytes 8 (be s (at + 16) 8) ++ (bytes 4 (be s (at + 24) 4)
+          ++ named b (if b then getD s (at + 28) 0 else 0) (if b then getD s (at + 29) 0 else 0))))
+          ≡ take (if b then 30 else 28) (drop at s)
+      go true l = rw (← one 29 0 (omega arith), ← one 28 1 (omega arith)) (sym (node-start 2 (omega arith)))
+      go false l = sym (node-start 0 l)
 
 -- the header of a list of bytes that begins with the mark
 pub header-again : (s : List ℕ) → ((k : ℕ) → getD s k 0 < 256) → getD s 0 0 ≡ 65 → getD s 1 0 ≡ 88 → getD s 2 0 ≡ 80
     → headerLength (headerOf s .version) ≤ length s → headerBytes (headerOf s) ≡ take (headerLength (headerOf s .version)) s
 unfolding headerOf headerBytes headerLength bytes
-header-again s all first second third long = go (delivers (be s 3 2)) long
+header-again s all first second third long = go (delivers (be s 3 2)) (hasPairs (be s 3 2)) (pairs-deliver (be s 3 2)) long
   where
-    -- what stands before the user
+    -- what stands before user and pairs
     before : (n : ℕ) → 15 ≤ length s
         → take (15 + n) s
         ≡ 65 ∷ 88 ∷ 80 ∷ (bytes 2 (be s 3 2) ++ (getD s 5 0 ∷ getD s 6 0 ∷ getD s 7 0 ∷ getD s 8 0
@@ -185,9 +241,11 @@ header-again s all first second third long = go (delivers (be s 3 2)) long
           last s all 0 11 4 (omega arith),
         ) refl
 
-    go : (b : Bool) → (if b then 16 else 15) ≤ length s
+    go : (d p : Bool) → (p ≡ true → d ≡ true) → (if p then 17 else if d then 16 else 15) ≤ length s
         → 65 ∷ 88 ∷ 80 ∷ (bytes 2 (be s 3 2) ++ (getD s 5 0 ∷ getD s 6 0 ∷ getD s 7 0 ∷ getD s 8 0
-        ∷ (bytes 2 (be s 9 2) ++ (bytes 4 (be s 11 4) ++ (if b then (if b then getD s 15 0 else 0) ∷ [] else [])))))
-        ≡ take (if b then 16 else 15) s
-    go true l = sym (before 1 (omega arith) ∙ rw (one s all 0 15 0 (omega arith)) refl)
-    go false l = sym (before 0 l)
+        ∷ (bytes 2 (be s 9 2) ++ (bytes 4 (be s 11 4) ++ behind d p (if d then getD s 15 0 else 0) (if p then getD s 16 0 else 0)))))
+        ≡ take (if p then 17 else if d then 16 else 15) s
+    go true true f l = sym (before 2 (omega arith) ∙ rw (one s all 0 15 1 (omega arith), one s all 0 16 0 (omega arith)) refl)
+    go true false f l = sym (before 1 (omega arith) ∙ rw (one s all 0 15 0 (omega arith)) refl)
+    go false true f l = absurd (let z : _≡_ {A = ℕ} 0 1 = cc (f refl) in omega arith)
+    go false false f l = sym (before 0 l)

@@ -10,7 +10,8 @@ use Rattle.night.specs.declared.Header.{Header}
 use Rattle.night.specs.declared.Relation.{Relation}
 use Rattle.night.specs.declared.Grant.{Grant}
 use Rattle.night.specs.declared.Node.{Node}
-use Rattle.night.specs.Versions.{delivers, headerLength, relationLength, grantLength, nodeLength}
+use Rattle.night.specs.declared.Pair.{Pair}
+use Rattle.night.specs.Versions.{delivers, hasPairs, headerLength, relationLength, grantLength, nodeLength, pairLength}
 use Rattle.night.specs.Night.{Night}
 
 -- where each section starts, and where the last one ends
@@ -20,8 +21,15 @@ grantsFrom h = headerLength (h .version) + relationLength (h .version) * h .rela
 unfoldable pub nodesFrom : Header → ℕ
 nodesFrom h = grantsFrom h + grantLength (h .version) * h .grants
 
+unfoldable pub pairsFrom : Header → ℕ
+pairsFrom h = nodesFrom h + nodeLength (h .version) * h .nodes
+
+-- how many pairs there are: none in a version without pairs
+unfoldable pub pairsIn : Header → ℕ
+pairsIn h = if hasPairs (h .version) then h .pairs else 0
+
 unfoldable pub stepPricesFrom : Header → ℕ
-stepPricesFrom h = nodesFrom h + nodeLength (h .version) * h .nodes
+stepPricesFrom h = pairsFrom h + pairLength (h .version) * pairsIn h
 
 unfoldable pub linkPricesFrom : Header → ℕ
 linkPricesFrom h = stepPricesFrom h + 4 * (h .nodes * h .subjects)
@@ -29,7 +37,8 @@ linkPricesFrom h = stepPricesFrom h + 4 * (h .nodes * h .subjects)
 unfoldable pub fileLength : Header → ℕ
 fileLength h = linkPricesFrom h + 4 * (h .subjects * h .subjects)
 
--- the header's values: after the mark, version, subjects, relations, attributes, nodes, grants, steps allowed; and the user, 0 in a version without one
+-- the header's values: after the mark, version, subjects, relations, attributes, nodes, grants, steps allowed; the user and how many pairs, each 0 in a version
+-- without it
 unfoldable pub headerOf : List ℕ → Header
 headerOf s =
     record {
@@ -41,9 +50,10 @@ headerOf s =
       grants = be s 9 2;
       steps = be s 11 4;
       user = if delivers (be s 3 2) then getD s 15 0 else 0;
+      pairs = if hasPairs (be s 3 2) then getD s 16 0 else 0;
     }
 
--- its bytes: the mark `AXP`, and the values in this order; a user only in a version that has one
+-- its bytes: the mark `AXP`, and the values in this order; a user and a number of pairs only in a version that has them
 unfoldable pub headerBytes : Header → List ℕ
 headerBytes h =
     65 ∷ 88 ∷ 80
@@ -51,7 +61,8 @@ headerBytes h =
     ++ (h .subjects ∷ h .relations ∷ h .attributes ∷ h .nodes
     ∷ (bytes 2 (h .grants)
     ++ (bytes 4 (h .steps)
-    ++ (if delivers (h .version) then h .user ∷ [] else [])))))
+    ++ ((if delivers (h .version) then h .user ∷ [] else [])
+    ++ (if hasPairs (h .version) then h .pairs ∷ [] else []))))))
 
 -- the header as these bytes are read: a field that the version doesn't have means nothing, and is read at its fixed value
 unfoldable pub asRead : Header → Header
@@ -65,6 +76,7 @@ asRead h =
       grants = h .grants;
       steps = h .steps;
       user = if delivers (h .version) then h .user else 0;
+      pairs = pairsIn h;
     }
 
 -- a relation: owner, set
@@ -81,9 +93,9 @@ grantAt s at = record { relation = getD s at 0; subject = getD s (at + 1) 0; cle
 unfoldable pub grantBytes : Grant → List ℕ
 grantBytes v = v .relation ∷ v .subject ∷ (bytes 8 (v .clear) ++ bytes 8 (v .sealed))
 
--- a node: kind, left, right, x, y, three spare bytes, set, needed in clear, size
-unfoldable pub nodeAt : List ℕ → ℕ → Node
-nodeAt s at =
+-- a node: kind, left, right, x, y, three spare bytes, set, needed in clear, size; and the first pair and how many, 0 in a version without pairs
+unfoldable pub nodeAt : ℕ → List ℕ → ℕ → Node
+nodeAt version s at =
     record {
       kind = getD s at 0;
       left = getD s (at + 1) 0;
@@ -96,14 +108,40 @@ nodeAt s at =
       set = be s (at + 8) 8;
       needed = be s (at + 16) 8;
       size = be s (at + 24) 4;
+      first = if hasPairs version then getD s (at + 28) 0 else 0;
+      count = if hasPairs version then getD s (at + 29) 0 else 0;
     }
 
 -- its fields of one byte, which stand first, and all of it
 abbrev pub nodeStart : Node → List ℕ
 nodeStart v = v .kind ∷ v .left ∷ v .right ∷ v .x ∷ v .y ∷ v .spare1 ∷ v .spare2 ∷ v .spare3 ∷ []
 
-unfoldable pub nodeBytes : Node → List ℕ
-nodeBytes v = nodeStart v ++ (bytes 8 (v .set) ++ (bytes 8 (v .needed) ++ bytes 4 (v .size)))
+unfoldable pub nodeBytes : ℕ → Node → List ℕ
+nodeBytes version v =
+    nodeStart v ++ (bytes 8 (v .set) ++ (bytes 8 (v .needed) ++ (bytes 4 (v .size) ++ (if hasPairs version then v .first ∷ v .count ∷ [] else []))))
+
+-- the node as these bytes are read
+unfoldable pub nodeAsRead : ℕ → Node → Node
+nodeAsRead version v =
+    record {
+      kind = v .kind;
+      left = v .left;
+      right = v .right;
+      x = v .x;
+      y = v .y;
+      spare1 = v .spare1;
+      spare2 = v .spare2;
+      spare3 = v .spare3;
+      set = v .set;
+      needed = v .needed;
+      size = v .size;
+      first = if hasPairs version then v .first else 0;
+      count = if hasPairs version then v .count else 0;
+    }
+
+-- a pair: the left operand's attribute, the right one's
+unfoldable pub pairAt : List ℕ → ℕ → Pair
+pairAt s at = record { left = getD s at 0; right = getD s (at + 1) 0 }
 
 -- a table of prices: rows of so many 32-bit prices each
 unfoldable pub pricesAt : List ℕ → ℕ → ℕ → ℕ → List (List ℕ)
@@ -120,7 +158,8 @@ nightIn s h =
       header = h;
       relations = each (h .relations) (λ i. relationAt s (headerLength (h .version) + relationLength (h .version) * i));
       grants = each (h .grants) (λ i. grantAt s (grantsFrom h + grantLength (h .version) * i));
-      nodes = each (h .nodes) (λ i. nodeAt s (nodesFrom h + nodeLength (h .version) * i));
+      nodes = each (h .nodes) (λ i. nodeAt (h .version) s (nodesFrom h + nodeLength (h .version) * i));
+      pairs = each (pairsIn h) (λ i. pairAt s (pairsFrom h + pairLength (h .version) * i));
       stepPrices = pricesAt s (stepPricesFrom h) (h .nodes) (h .subjects);
       linkPrices = pricesAt s (linkPricesFrom h) (h .subjects) (h .subjects);
     }

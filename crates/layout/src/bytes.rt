@@ -3,6 +3,7 @@ ghost use mathlib.Core.Path.{_≡_};
 ghost use Prim.Native.Nat.{ℕ, _+_, _<_, _≤_, _^_};
 ghost use lib.ListN.{length, getD};
 ghost use Rattle.laws.specs.BigEndian.{be};
+ghost use Rattle.laws.specs.Choose.{if_then_else_};
 
 // The byte at `at`.
 pub(crate) fn byte(file: &[u8], at: usize) -> u8
@@ -10,6 +11,16 @@ pub(crate) fn byte(file: &[u8], at: usize) -> u8
 {
     if at < file.len() {
         return file[at];
+    }
+    0
+}
+
+// The byte at `at` where there is such a field, or else 0.
+pub(crate) fn byte_if(there: bool, file: &[u8], at: usize) -> u8
+    ensures { λ r. ⌜ r ≡ (if there then getD (now (file .entry)) at 0 else 0) ⌝ }
+{
+    if there {
+        return byte(file, at);
     }
     0
 }
@@ -51,14 +62,14 @@ pub(crate) fn eight_in(file: &[u8], at: usize) -> u64
     (four_in(file, at) as u64) * 4_294_967_296 + (four_in(file, at + 4) as u64)
 }
 
-// The 28 bytes from `at` on, as many as the longest record has: what a file is too short for is read out of these, as from a file that has it whole.
-pub(crate) fn padded(file: &[u8], at: usize) -> [u8; 28]
+// The 30 bytes from `at` on, as many as the longest record has: what a file is too short for is read out of these, as from a file that has it whole.
+pub(crate) fn padded(file: &[u8], at: usize) -> [u8; 30]
     requires { ⌜ at < 2 ^ 31 ⌝ }
-    ensures { λ r. ⌜ ((k : ℕ) → k < 28 → getD r k 0 ≡ getD (now (file .entry)) (at + k) 0) ⌝ }
+    ensures { λ r. ⌜ ((k : ℕ) → k < 30 → getD r k 0 ≡ getD (now (file .entry)) (at + k) 0) ⌝ }
 {
-    let mut out = [0u8; 28];
+    let mut out = [0u8; 30];
     let mut i: usize = 0;
-    while i < 28 {
+    while i < 30 {
         let b = byte(file, at + i);
         out[i] = b;
         i += 1;
@@ -74,7 +85,7 @@ pub(crate) fn four(file: &[u8], at: usize) -> u32
     if file.len() < at + 4 {
         let here = file;
         let bytes = padded(here, at);
-        return four_in(&bytes[..28], 0);
+        return four_in(&bytes[..30], 0);
     }
     four_in(file, at)
 }

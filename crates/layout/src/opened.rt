@@ -3,10 +3,11 @@ use crate::records;
 use night::Grant;
 use night::Header;
 use night::Node;
+use night::Pair;
 use night::Relation;
 ghost use mathlib.Core.Path.{_≡_};
 ghost use Rattle.layout.specs.Layout.{nightIn, nthPrice};
-ghost use Rattle.night.specs.Night.{relationOf, grantOf, nodeOf};
+ghost use Rattle.night.specs.Night.{relationOf, grantOf, nodeOf, pairOf};
 
 pub struct Opened<'a> {
     pub file: &'a [u8],
@@ -39,6 +40,13 @@ pub fn node_of<'a>(v: Opened<'a>, i: usize) -> Node
     ensures { λ r. ⌜ r ≡ nodeOf (nightIn (now (v .entry .file)) (v .entry .counts)) i ⌝ }
 {
     records::node(i, v.file, v.counts)
+}
+
+// Pair i of the file.
+pub fn pair_of<'a>(v: Opened<'a>, i: usize) -> Pair
+    ensures { λ r. ⌜ r ≡ pairOf (nightIn (now (v .entry .file)) (v .entry .counts)) i ⌝ }
+{
+    records::pair(i, v.file, v.counts)
 }
 
 // Price i of the file, step prices first.

@@ -3,7 +3,7 @@ use night::Header;
 use night::versions;
 ghost use mathlib.Core.Path.{_≡_};
 ghost use Prim.Native.Nat.{_<_, _+_, _*_};
-ghost use Rattle.layout.specs.Layout.{grantsFrom, nodesFrom, stepPricesFrom, linkPricesFrom, fileLength};
+ghost use Rattle.layout.specs.Layout.{grantsFrom, nodesFrom, pairsFrom, pairsIn, stepPricesFrom, linkPricesFrom, fileLength};
 
 // Where the grants start.
 pub fn grants_from(h: Header) -> usize
@@ -19,11 +19,28 @@ pub fn nodes_from(h: Header) -> usize
     grants_from(h) + versions::GRANT_LENGTH * (h.grants as usize)
 }
 
+// Where the pairs start.
+pub fn pairs_from(h: Header) -> usize
+    ensures { λ r. ⌜ (r ≡ pairsFrom h) × (r < 1_250_000) ⌝ }
+{
+    nodes_from(h) + versions::nodes_length(h.version, h.nodes)
+}
+
+// How many pairs there are.
+pub fn pairs_in(h: Header) -> usize
+    ensures { λ r. ⌜ (r ≡ pairsIn h) × (r < 256) ⌝ }
+{
+    if versions::has_pairs(h.version) {
+        return h.pairs as usize;
+    }
+    0
+}
+
 // Where the step prices start.
 pub fn step_prices_from(h: Header) -> usize
     ensures { λ r. ⌜ (r ≡ stepPricesFrom h) × (r < 1_300_000) ⌝ }
 {
-    nodes_from(h) + versions::NODE_LENGTH * (h.nodes as usize)
+    pairs_from(h) + versions::PAIR_LENGTH * pairs_in(h)
 }
 
 // How many step prices there are.

@@ -3,16 +3,18 @@
 use crate::bytes;
 use crate::places;
 use crate::short;
+use crate::values;
 use crate::whole;
 use night::Grant;
 use night::Header;
 use night::Node;
+use night::Pair;
 use night::Relation;
 use night::versions;
 ghost use mathlib.Core.Path.{_≡_};
 ghost use Prim.Native.Nat.{_<_, _^_};
-ghost use Rattle.layout.specs.Layout.{relationAt, grantAt, nodeAt, nightIn, nthPrice};
-ghost use Rattle.night.specs.Night.{relationOf, grantOf, nodeOf, noNode};
+ghost use Rattle.layout.specs.Layout.{relationAt, grantAt, nodeAt, pairAt, nightIn, nthPrice};
+ghost use Rattle.night.specs.Night.{relationOf, grantOf, nodeOf, pairOf};
 
 // Relation i, where the header is h.
 pub(crate) fn relation(i: usize, file: &[u8], h: Header) -> Relation
@@ -47,9 +49,23 @@ pub(crate) fn node(i: usize, file: &[u8], h: Header) -> Node
     ensures { λ r. ⌜ r ≡ nodeOf (nightIn (now (file .entry)) h) i ⌝ }
 {
     if h.nodes as usize <= i {
-        return no_node();
+        return values::no_node();
     }
-    node_at(file, places::nodes_from(h) + versions::NODE_LENGTH * i)
+    node_at(
+        file,
+        places::nodes_from(h) + versions::nodes_length(h.version, i as u8),
+        h.version,
+    )
+}
+
+// Pair i, where the header is h.
+pub(crate) fn pair(i: usize, file: &[u8], h: Header) -> Pair
+    ensures { λ r. ⌜ r ≡ pairOf (nightIn (now (file .entry)) h) i ⌝ }
+{
+    if places::pairs_in(h) <= i {
+        return Pair { left: 0, right: 0 };
+    }
+    pair_at(file, places::pairs_from(h) + versions::PAIR_LENGTH * i)
 }
 
 // Price i of all, step prices first, where the header is h.
@@ -69,7 +85,7 @@ fn relation_at(file: &[u8], at: usize) -> Relation
 {
     if file.len() < at + versions::RELATION_LENGTH {
         let here = file;
-        let all = short::all_at(here, at);
+        let all = short::all_at(here, at, 0);
         return all.relation;
     }
     whole::relation_in(file, at)
@@ -82,40 +98,32 @@ fn grant_at(file: &[u8], at: usize) -> Grant
 {
     if file.len() < at + versions::GRANT_LENGTH {
         let here = file;
-        let all = short::all_at(here, at);
+        let all = short::all_at(here, at, 0);
         return all.grant;
     }
     whole::grant_in(file, at)
 }
 
 // A node's record.
-fn node_at(file: &[u8], at: usize) -> Node
+fn node_at(file: &[u8], at: usize, version: u16) -> Node
     requires { ⌜ at < 2 ^ 31 ⌝ }
-    ensures { λ r. ⌜ r ≡ nodeAt (now (file .entry)) at ⌝ }
+    ensures { λ r. ⌜ r ≡ nodeAt version (now (file .entry)) at ⌝ }
 {
-    if file.len() < at + versions::NODE_LENGTH {
+    if file.len() < at + versions::NODE_START {
         let here = file;
-        let all = short::all_at(here, at);
+        let all = short::all_at(here, at, version);
         return all.node;
     }
-    whole::node_in(file, at)
+    whole::node_in(file, at, version)
 }
 
-// What stands past the nodes.
-fn no_node() -> Node
-    ensures { λ r. ⌜ r ≡ noNode ⌝ }
+// A pair's record.
+fn pair_at(file: &[u8], at: usize) -> Pair
+    requires { ⌜ at < 2 ^ 31 ⌝ }
+    ensures { λ r. ⌜ r ≡ pairAt (now (file .entry)) at ⌝ }
 {
-    Node {
-        kind: 0,
-        left: 0,
-        right: 0,
-        x: 0,
-        y: 0,
-        spare1: 0,
-        spare2: 0,
-        spare3: 0,
-        set: 0,
-        needed: 0,
-        size: 0,
+    Pair {
+        left: bytes::byte(file, at),
+        right: bytes::byte(file, at + 1),
     }
 }

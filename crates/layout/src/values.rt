@@ -5,25 +5,13 @@ use crate::places;
 use night::Grant;
 use night::Header;
 use night::Node;
+use night::Pair;
 use night::Relation;
 use night::versions;
 ghost use mathlib.Core.Path.{_≡_};
 ghost use Prim.Native.Nat.{_<_, _+_, _*_};
-ghost use Rattle.laws.specs.Choose.{if_then_else_};
-ghost use lib.ListN.{getD};
-ghost use Rattle.night.specs.Versions.{delivers};
 ghost use Rattle.layout.specs.Layout.{headerOf, nightIn, nthPrice};
-ghost use Rattle.night.specs.Night.{relationOf, grantOf, nodeOf, stepPrice, linkPrice};
-
-// The user's byte, in a version that has one.
-fn user(file: &[u8], version: u16) -> u8
-    ensures { λ r. ⌜ r ≡ (if delivers version then getD (now (file .entry)) 15 0 else 0) ⌝ }
-{
-    if versions::delivers(version) {
-        return bytes::byte(file, 15);
-    }
-    0
-}
+ghost use Rattle.night.specs.Night.{relationOf, grantOf, nodeOf, pairOf, stepPrice, linkPrice, noNode};
 
 // The header's values.
 pub fn header(file: &[u8]) -> Header
@@ -38,7 +26,8 @@ pub fn header(file: &[u8]) -> Header
         nodes: bytes::byte(file, 8),
         grants: bytes::two(file, 9),
         steps: bytes::four(file, 11),
-        user: user(file, version),
+        user: bytes::byte_if(versions::delivers(version), file, 15),
+        pairs: bytes::byte_if(versions::has_pairs(version), file, 16),
     }
 }
 
@@ -61,6 +50,13 @@ pub fn node(file: &[u8], h: Header, i: usize) -> Node
     ensures { λ r. ⌜ r ≡ nodeOf (nightIn (now (file .entry)) h) i ⌝ }
 {
     opened::node_of(opened::view_of(file, h), i)
+}
+
+// Pair i, where the header is h.
+pub fn pair(file: &[u8], h: Header, i: usize) -> Pair
+    ensures { λ r. ⌜ r ≡ pairOf (nightIn (now (file .entry)) h) i ⌝ }
+{
+    opened::pair_of(opened::view_of(file, h), i)
 }
 
 // Price i of all, step prices first, where the header is h.
@@ -102,4 +98,25 @@ fn cell(h: Header, i: usize, p: usize) -> usize
     ensures { λ r. ⌜ (r ≡ i * h .subjects + p) × (r < 131_072) ⌝ }
 {
     i * (h.subjects as usize) + p
+}
+
+// What stands past the nodes.
+pub fn no_node() -> Node
+    ensures { λ r. ⌜ r ≡ noNode ⌝ }
+{
+    Node {
+        kind: 0,
+        left: 0,
+        right: 0,
+        x: 0,
+        y: 0,
+        spare1: 0,
+        spare2: 0,
+        spare3: 0,
+        set: 0,
+        needed: 0,
+        size: 0,
+        first: 0,
+        count: 0,
+    }
 }

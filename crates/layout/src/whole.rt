@@ -3,8 +3,9 @@ use crate::bytes;
 use night::Grant;
 use night::Node;
 use night::Relation;
+use night::versions;
 ghost use mathlib.Core.Path.{_≡_};
-ghost use Prim.Native.Nat.{_+_, _≤_};
+ghost use Prim.Native.Nat.{_+_, _<_, _≤_, _^_};
 ghost use lib.ListN.{length};
 ghost use Rattle.layout.specs.Layout.{relationAt, grantAt, nodeAt};
 
@@ -32,11 +33,12 @@ pub(crate) fn grant_in(file: &[u8], at: usize) -> Grant
     }
 }
 
-// A node's record.
-pub(crate) fn node_in(file: &[u8], at: usize) -> Node
-    requires { ⌜ at + 28 ≤ length (now file) ⌝ }
-    ensures { λ r. ⌜ r ≡ nodeAt (now (file .entry)) at ⌝ }
+// A node's record. Its last two bytes, which not every version has, are read as any byte is.
+pub(crate) fn node_in(file: &[u8], at: usize, version: u16) -> Node
+    requires { ⌜ (at + 28 ≤ length (now file)) × (at < 2 ^ 31) ⌝ }
+    ensures { λ r. ⌜ r ≡ nodeAt version (now (file .entry)) at ⌝ }
 {
+    let paired = versions::has_pairs(version);
     Node {
         kind: file[at],
         left: file[at + 1],
@@ -49,5 +51,7 @@ pub(crate) fn node_in(file: &[u8], at: usize) -> Node
         set: bytes::eight_in(file, at + 8),
         needed: bytes::eight_in(file, at + 16),
         size: bytes::four_in(file, at + 24),
+        first: bytes::byte_if(paired, file, at + 28),
+        count: bytes::byte_if(paired, file, at + 29),
     }
 }

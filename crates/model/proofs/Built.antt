@@ -93,7 +93,7 @@ module _ (N : Night) (sound : Promised N) where
   needed-brought : (i : ℕ) → i < n → Within (nodeOf N i .needed) (brought i)
   needed-brought i l k h =
       let r = sound .node i l .needed-read k h in
-      let s = reads-step (nodeOf N i) k r in
+      let s = reads-step N (nodeOf N i) k r in
       of-operand i k s (reads-operand N sound i l s k r)
 
   -- what is sealed in node i's result, for given sealings, from what then arrives at it

@@ -47,7 +47,7 @@ module _ (N : Night) (sound : Promised N) (c : Choice) where
           step-tested N sound i l s a .1
           (⊎-elim (λ x. inl (operand-map N sound i l s lower x))
           (λ x.
-          let came = reads-operand N sound i l s a (tests-read _ a (x .0)) in
+          let came = reads-operand N sound i l s a (tests-read N _ a (x .0)) in
           inr (x .0, ⊎-elim (λ y. y) (λ y. absurd (sealed-clear (sym (other-sealed N sound c i l s a y came) ∙ x .1))) (in-or-not a (nodeOf N i .needed))))
           (step-tested-past N p sound i a clear l s .0 h))
 
@@ -61,7 +61,7 @@ module _ (N : Night) (sound : Promised N) (c : Choice) where
           let s = eqb-false (nodeOf N i .kind) 0 e in
           step-hidden N sound i l s a .1
           (⊎-elim (λ x. inl (operand-map N sound i l s lower x))
-          (λ x. inr (x .0, λ y. sealed-clear (sym (x .1) ∙ needed-clear N sound c i l s a y (reads-operand N sound i l s a (tests-read _ a (x .0))))))
+          (λ x. inr (x .0, λ y. sealed-clear (sym (x .1) ∙ needed-clear N sound c i l s a y (reads-operand N sound i l s a (tests-read N _ a (x .0))))))
           (step-tested-past N p sound i a (sealed key) l s .0 h))
 
   -- a table with node k's past, where the subject sees its columns and a profile with node k's implicit and tied parts

@@ -25,22 +25,12 @@ use Rattle.model.specs.Demand.{Assigned}
 use Rattle.run.specs.Run.{clear, sealed, Some, keyOf, holders, resultOf, arrived, opened, AllAre, Stuck, seals-unclear, opens-unsealed, opens-unheld, needs-unclear, mixes}
 use Rattle.run.proofs.Forms.{same-sealed}
 use Rattle.model.proofs.Shown.{shown-visible}
-use Rattle.model.proofs.PastLaws.{some-listed}
+use Rattle.model.proofs.Together.{some-listed, together-read}
 use Rattle.model.proofs.KeyLaws.{ever, same-key, opens-held}
 use Rattle.model.proofs.Built.{seals-clear, opens-needed}
 use Rattle.model.proofs.BuiltColumns.{leaves-ever, formed, came, needed-clear, other-sealed}
 
--- what is read together is all that is read
-pub together-reads : (v : Node) (m : ℕ) → Some (λ t. m ≡ t) (readTogether v) → m ≡ reads v
-unfolding readTogether
-together-reads v m h = go (eqb (v .kind) 3) (eqb (v .kind) 5) (eqb (v .kind) 8) h
-  where
-    go : (a b c : Bool) → Some (λ t. m ≡ t) (if a then reads v ∷ [] else if b then reads v ∷ [] else if c then reads v ∷ [] else []) → m ≡ reads v
-    go true b c = ⊎-elim (λ e. e) (λ q. absurd q)
-    go false true c = ⊎-elim (λ e. e) (λ q. absurd q)
-    go false false true = ⊎-elim (λ e. e) (λ q. absurd q)
-    go false false false = λ q. absurd q
-
+-- where it is so of every set of a list, of one of them all is needed or none
 all-or-none : (needed m : ℕ) (ts : List ℕ) → AllOrNone needed ts → Some (λ t. m ≡ t) ts → Apart needed m ⊎ Within m needed
 all-or-none needed m [] f h = absurd h
 all-or-none needed m (t ∷ ts) f h = ⊎-elim (λ e. rw e (f .0)) (all-or-none needed m ts (f .1)) h
@@ -53,25 +43,25 @@ module _ (N : Night) (sound : Promised N) (c : Choice) (assigned : Assigned N c)
   v = nodeOf N i
 
   -- what is read comes from an operand
-  comes : (a : ℕ) → In a (reads v) → OfOperand N i (λ k. In a (visible N k))
-  comes a h = reads-operand N sound i l (reads-step v a h) a h
+  comes : (a : ℕ) → In a (reads N v) → OfOperand N i (λ k. In a (visible N k))
+  comes a h = reads-operand N sound i l (reads-step N v a h) a h
 
   needed-comes : (a : ℕ) → In a (v .needed) → OfOperand N i (λ k. In a (visible N k))
   needed-comes a h = comes a (sound .node i l .needed-read a h)
 
   needed-step : (a : ℕ) → In a (v .needed) → v .kind ≡ 0 → ⊥
-  needed-step a h = reads-step v a (sound .node i l .needed-read a h)
+  needed-step a h = reads-step N v a (sound .node i l .needed-read a h)
 
   opens-are : (a : ℕ) → In a (openings N (sealings N) i) → In a (v .needed)
   opens-are a h = rw (opens-needed N sound i l) at h
 
   -- and was sealed by a lower node
-  read-ever : (a : ℕ) → In a (reads v) → In a (ever N sound p)
-  read-ever a h = ⊎-elim (λ x. x) (λ x. x .1) (operand-map N sound i l (reads-step v a h) {R = λ k. In a (ever N sound p)} (λ k q x. leaves-ever N sound c k a (omega arith) x) (comes a h))
+  read-ever : (a : ℕ) → In a (reads N v) → In a (ever N sound p)
+  read-ever a h = ⊎-elim (λ x. x) (λ x. x .1) (operand-map N sound i l (reads-step N v a h) {R = λ k. In a (ever N sound p)} (λ k q x. leaves-ever N sound c k a (omega arith) x) (comes a h))
 
-  read-low : (a : ℕ) → In a (reads v) → a < 64
+  read-low : (a : ℕ) → In a (reads N v) → a < 64
   read-low a h =
-      let below = operand-map N sound i l (reads-step v a h) {R = λ k. a < N .header .attributes} (λ k q x. visible-below N sound k a (omega arith) x) (comes a h) in
+      let below = operand-map N sound i l (reads-step N v a h) {R = λ k. a < N .header .attributes} (λ k q x. visible-below N sound k a (omega arith) x) (comes a h) in
       omega (arith, ⊎-elim (λ x. x) (λ x. x .1) below, sound .counts .attributes-most)
 
   -- it seals what is clear
@@ -86,16 +76,16 @@ module _ (N : Night) (sound : Promised N) (c : Choice) (assigned : Assigned N c)
   opens-fine : (a key : ℕ) → In a (openings N (sealings N) i) → arrived N p i .column a ≡ sealed key → In (c i) (holders N p key)
   opens-fine a key h e =
       let r = sound .node i l .needed-read a (opens-are a h) in
-      let same : key ≡ keyOf N p a = same-sealed (sym e ∙ came N sound c i l (reads-step v a r) a (comes a r)) in
+      let same : key ≡ keyOf N p a = same-sealed (sym e ∙ came N sound c i l (reads-step N v a r) a (comes a r)) in
       rw same (opens-held N sound p i a l (omega (arith, assigned .there i l, sound .counts .subjects-most)) h (read-ever a r) (read-low a r))
 
   -- what is read together and not needed is sealed under one key, since the step itself ties it
-  tied-fine : (m : ℕ) → Some (λ t. m ≡ t) (readTogether v) → Apart (v .needed) m → (key : ℕ) × AllAre (opened N p i) m (sealed key)
+  tied-fine : (m : ℕ) → Some (λ t. m ≡ t) (readTogether N v) → Apart (v .needed) m → (key : ℕ) × AllAre (opened N p i) m (sealed key)
   unfolding ties
   tied-fine m q out = go (eqb m 0) refl
     where
-      read : (a : ℕ) → In a m → In a (reads v)
-      read a h = rw (together-reads v m q) at h
+      read : (a : ℕ) → In a m → In a (reads N v)
+      read a h = together-read N v m q a h
 
       go : (b : Bool) → eqb m 0 ≡ b → (key : ℕ) × AllAre (opened N p i) m (sealed key)
       go true e = (0, λ a h. absurd (in-none a (rw (eqb-true m 0 e) at h)))
@@ -103,8 +93,8 @@ module _ (N : Night) (sound : Promised N) (c : Choice) (assigned : Assigned N c)
           let w = some-member m (eqb-false m 0 e) in (
             keyOf N p (w .0),
             λ a h.
-                other-sealed N sound c i l (reads-step v a (read a h)) a (λ x. out a x h) (comes a (read a h))
-                ∙ ap sealed (same-key N sound p a (w .0) (read-ever a (read a h)) (read-ever (w .0) (read (w .0) (w .1))) (one (i, l, some-listed m (ties v) .0 q) h (w .1))),
+                other-sealed N sound c i l (reads-step N v a (read a h)) a (λ x. out a x h) (comes a (read a h))
+                ∙ ap sealed (same-key N sound p a (w .0) (read-ever a (read a h)) (read-ever (w .0) (read (w .0) (w .1))) (one (i, l, some-listed m (ties N v) .0 q) h (w .1))),
           )
 
   pub built-free : Stuck N p i → ⊥
@@ -120,4 +110,4 @@ module _ (N : Night) (sound : Promised N) (c : Choice) (assigned : Assigned N c)
       let w = tied-fine m q out in
       g (w .0) (w .1))
       (λ all. f (λ a h. needed-clear N sound c i l (needed-step a (all a h)) a (all a h) (needed-comes a (all a h))))
-      (all-or-none (v .needed) m (readTogether v) (sound .node i l .needed-together) q)
+      (all-or-none (v .needed) m (readTogether N v) (sound .node i l .needed-together) q)

@@ -9,8 +9,8 @@ use Rattle.laws.specs.Sums.{sum}
 use Rattle.laws.specs.Trials.{verdict}
 use Rattle.laws.specs.Upwards.{upwards}
 use Rattle.sets.specs.Sets.{In, bit, member, union, meet, minus, within, single, lowest, unions}
-use Rattle.night.specs.Night.{relationOf, grantOf, nodeOf, stepPrice, linkPrice}
-use Rattle.night.specs.Kinds.{usesLeft, usesRight, reads, readTogether, visibleAfter}
+use Rattle.night.specs.Night.{relationOf, grantOf, nodeOf, pairOf, stepPrice, linkPrice}
+use Rattle.night.specs.Kinds.{usesLeft, usesRight, itsPair, bothOf, pairsRead, reads, readTogether, visibleAfter}
 use Rattle.night.specs.Views.{isFor, grantFor, viewOf, clearOf, sealedOf}
 use Rattle.model.specs.Ties.{gathered, tie, merged}
 use Rattle.model.specs.Tables.{leastView, tests, ties, joined, result, leafTable, stepTable, tableStep, tables, tableOf}
@@ -62,7 +62,7 @@ read-from-last =
     }
 
 pub standings : Standings
-unfolding anyOf first somewhere upwards verdict bit member union meet minus within single lowest trailingZeros nodeOf usesRight reads readTogether visibleAfter gathered tie merged leastView tests ties joined result leafTable stepTable tableStep tables tableOf clearOffends sealedOffends tiedOffends lookedAt conditions reasons offending standing
+unfolding anyOf first somewhere upwards verdict bit member union meet minus within single unions lowest trailingZeros nodeOf pairOf usesRight itsPair bothOf pairsRead reads readTogether visibleAfter gathered tie merged leastView tests ties joined result leafTable stepTable tableStep tables tableOf clearOffends sealedOffends tiedOffends lookedAt conditions reasons offending standing
 standings =
     record {
       candidate = refl;
@@ -87,10 +87,18 @@ standings =
       first-tied = refl;
       tied-alone = refl;
       tied-sealed = refl;
+      pairs-each = refl;
+      pair-needed = refl;
+      pair-needed-sealed = refl;
+      pair-half = refl;
+      last-pair-half = refl;
+      pair-past = refl;
+      pair-before = refl;
+      pairs-shared = refl;
     }
 
 pub small-tests : SmallTests
-unfolding anyOf first somewhere upwards bit member union meet minus within single unions grantOf nodeOf usesRight reads readTogether visibleAfter isFor grantFor viewOf clearOf sealedOf gathered tie merged leastView tests ties joined result leafTable stepTable tableStep tables tableOf clearOffends sealedOffends takenBy splits outBy outOf passesBoth tiedOffends may mayTake isCandidate candidateSet
+unfolding anyOf first somewhere upwards bit member union meet minus within single unions grantOf nodeOf pairOf usesRight itsPair bothOf pairsRead reads readTogether visibleAfter isFor grantFor viewOf clearOf sealedOf gathered tie merged leastView tests ties joined result leafTable stepTable tableStep tables tableOf clearOffends sealedOffends takenBy splits outBy outOf passesBoth tiedOffends may mayTake isCandidate candidateSet
 small-tests =
     record {
       half = refl;
@@ -116,4 +124,6 @@ small-tests =
       still-out = refl;
       third-passes = refl;
       grown = refl;
+      pairs-apart = (refl, refl);
+      pairs-shared = (refl, refl);
     }

@@ -36,10 +36,10 @@ both-right true needed l r e = (second-of (l .tested) (r .tested), second-of (l 
 both-right false needed l r e = absurd (let z : _≡_ {A = ℕ} 0 1 = cc in omega arith)
 
 -- a step's implicit parts have those
-step-keeps : (v : Node) (l r : Table)
-    → Within (both (usesRight (v .kind)) (v .needed) l r .tested) (stepTable v l r .tested) × Within (both (usesRight (v .kind)) (v .needed) l r .hidden) (stepTable v l r .hidden)
+step-keeps : (N : Night) (v : Node) (l r : Table)
+    → Within (both (usesRight (v .kind)) (v .needed) l r .tested) (stepTable N v l r .tested) × Within (both (usesRight (v .kind)) (v .needed) l r .hidden) (stepTable N v l r .hidden)
 unfolding stepTable result
-step-keeps v l r = (first-of _ _, first-of _ _)
+step-keeps N v l r = (first-of _ _, first-of _ _)
 
 -- a node with an operand is a step
 pub left-step : (kind : ℕ) → usesLeft kind ≡ true → kind ≡ 0 → ⊥
@@ -64,7 +64,7 @@ module _ (N : Night) (sound : Promised N) (i : ℕ) (l : i < N .header .nodes) w
   keeps-left u =
       let lower : v .left < i = sound .node i l .left-lower u in
       let made = both-left (usesRight (v .kind)) (v .needed) (tableOf N (v .left)) (operandOf N i (v .right)) in
-      let kept = step-keeps v (tableOf N (v .left)) (operandOf N i (v .right)) in
+      let kept = step-keeps N v (tableOf N (v .left)) (operandOf N i (v .right)) in
       record {
         tested = λ k h. rw (table-step N i l (left-step (v .kind) u), lt-ltb (v .left) i lower) (kept .0 k (made .0 k h));
         hidden = λ k h. rw (table-step N i l (left-step (v .kind) u), lt-ltb (v .left) i lower) (kept .1 k (made .1 k h));
@@ -75,7 +75,7 @@ module _ (N : Night) (sound : Promised N) (i : ℕ) (l : i < N .header .nodes) w
   keeps-right u =
       let lower : v .right < i = sound .node i l .right-lower u in
       let made = both-right (usesRight (v .kind)) (v .needed) (operandOf N i (v .left)) (tableOf N (v .right)) u in
-      let kept = step-keeps v (operandOf N i (v .left)) (tableOf N (v .right)) in
+      let kept = step-keeps N v (operandOf N i (v .left)) (tableOf N (v .right)) in
       record {
         tested = λ k h. rw (table-step N i l (right-step (v .kind) u), lt-ltb (v .right) i lower) (kept .0 k (made .0 k h));
         hidden = λ k h. rw (table-step N i l (right-step (v .kind) u), lt-ltb (v .right) i lower) (kept .1 k (made .1 k h));

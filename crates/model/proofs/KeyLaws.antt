@@ -1,13 +1,12 @@
 -- The keys of the run: attributes that a chain of ties links share one, and who opens one of them holds it.
-use Prim.Native.Nat.{ℕ, zero, suc, _<_, _≤_}
+use Prim.Native.Nat.{ℕ, _<_, _≤_}
 use mathlib.Core.Path.{_≡_, refl, sym, ap}
 use mathlib.Core.Bool.{Bool, true, false}
 use mathlib.Core.List.{List, [], _∷_, _++_, append-nil}
 use mathlib.Core.Logic.{_⊎_, inl, inr, ⊎-elim, _↔_}
-use native.Mathlib.Nat.{eq-or-lt-of-le, le-of-suc-le-suc, lt-of-not-le}
+use native.Mathlib.Nat.{lt-of-not-le}
 use native.Mathlib.Omega.{arith}
 use Rattle.laws.specs.Choose.{if_then_else_}
-use Rattle.laws.specs.Upwards.{upwards, each}
 use Rattle.sets.specs.Sets.{In, union, apart, single, lowest}
 use Rattle.sets.proofs.Members.{same-members, in-member, in-union, in-meet, in-none, apart-exactly}
 use Rattle.sets.proofs.Words.{in-single, lowest-in, members-lt}
@@ -19,16 +18,9 @@ use Rattle.run.specs.Linked.{Chain}
 use Rattle.run.specs.Keys.{Plan, Event, events, everSealed, groupOf, keyName, holdersOf, keyHolders}
 use Rattle.run.specs.Run.{Some, reached, keyOf, delivered, sealedIn, deliveries, allEvents, holders}
 use Rattle.model.proofs.Chains.{chain-join, chain-back, chain-low}
-use Rattle.model.proofs.PastLaws.{some-append}
+use Rattle.model.proofs.Together.{some-append, some-each}
 use Rattle.model.proofs.Keyed.{ever-idle}
 use Rattle.model.proofs.Reached.{TiedBelow, tied-low, reached-exactly}
-
--- one of a list that says each entry by its number
-some-each : {A : Type 0} (Q : A → Type 0) (f : ℕ → A) (j n : ℕ) → j < n → Q (f j) → Some Q (each n f)
-unfolding upwards
-some-each Q f j zero l h = absurd (omega arith)
-some-each Q f j (suc n) l h =
-    some-append Q (each n f) (f n ∷ []) .1 (⊎-elim (λ e. inr (inl (rw e at h))) (λ q. inl (some-each Q f j n q h)) (eq-or-lt-of-le (le-of-suc-le-suc l)))
 
 -- what an event seals is sealed; who opens one of a group holds its key
 ever-some : (a : ℕ) (es : List Event) → Some (λ e. In a (e .sealed)) es → In a (everSealed es)

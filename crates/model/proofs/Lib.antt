@@ -6,6 +6,7 @@ pub mod Reasons
 pub mod Offending
 pub mod ResultTied
 pub mod TableLaws
+pub mod Together
 pub mod Taken
 pub mod OutLaws
 pub mod Meaning
@@ -39,3 +40,5 @@ pub mod Demand
 pub mod Keyed
 pub mod Turns
 pub mod SamePlan
+pub mod NightsAlike
+pub mod OnePair

@@ -8,16 +8,17 @@ use native.Mathlib.Omega.{arith}
 use lib.Dec.{eqb}
 use borrow.Author.Tests.{eqb-true, eqb-false, lt-ltb}
 use Rattle.laws.specs.Choose.{if_then_else_, anyOf}
-use Rattle.sets.specs.Sets.{In, union}
-use Rattle.sets.proofs.Words.{union-lt, single-lt, members-lt}
+use Rattle.sets.specs.Sets.{In}
+use Rattle.sets.proofs.Words.{members-lt}
 use Rattle.night.specs.declared.Node.{Node}
 use Rattle.night.specs.Night.{Night, nodeOf}
-use Rattle.night.specs.Kinds.{usesLeft, usesRight, usesSet, attribute, reads, readTogether}
+use Rattle.night.specs.Kinds.{usesLeft, usesRight, readTogether}
 use Rattle.night.specs.Promised.{Promised}
-use Rattle.night.proofs.Visible.{step-uses-left, visible-below}
+use Rattle.night.proofs.Visible.{operand-map, step-uses-left, visible-below, reads-step, reads-operand}
 use Rattle.model.specs.Ties.{Classes, tie}
 use Rattle.model.specs.Tables.{leastView, joined, result, leafTable, stepTable, tableOf, ties, tieAll, Listed, TiedAt, here, under-left, under-right, TiedMeaning}
 use Rattle.model.proofs.Lowest.{clash}
+use Rattle.model.proofs.Together.{some-listed, together-read}
 use Rattle.model.proofs.Chains.{untied-classes, tie-classes, same-classes}
 use Rattle.model.proofs.Merged.{merged-classes}
 use Rattle.model.proofs.TableLaws.{table-leaf, table-step, operandOf}
@@ -33,7 +34,7 @@ tie-all-classes T t (s ∷ ss) small c =
 
 -- how a set came to be tied
 pub tied-by : (N : Night) (i m : ℕ) → TiedAt N i m
-    → Listed m (ties (nodeOf N i)) ⊎ (((usesLeft (nodeOf N i .kind) ≡ true) × TiedAt N (nodeOf N i .left) m) ⊎ ((usesRight (nodeOf N i .kind) ≡ true) × TiedAt N (nodeOf N i .right) m))
+    → Listed m (ties N (nodeOf N i)) ⊎ (((usesLeft (nodeOf N i .kind) ≡ true) × TiedAt N (nodeOf N i .left) m) ⊎ ((usesRight (nodeOf N i .kind) ≡ true) × TiedAt N (nodeOf N i .right) m))
 tied-by N i m (here h) = inl h
 tied-by N i m (under-left u h) = inr (inl (u, h))
 tied-by N i m (under-right u h) = inr (inr (u, h))
@@ -43,45 +44,23 @@ module _ (N : Night) (sound : Promised N) (i : ℕ) (l : i < N .header .nodes) w
   abbrev v : Node
   v = nodeOf N i
 
-  pair-small : (v .kind ≡ 3) ⊎ (v .kind ≡ 5) → reads v < 2 ^ 64
-  unfolding reads
-  pair-small h = ⊎-elim (λ e. rw e (both (v .x) (v .y))) (λ e. rw e (both (v .x) (v .y))) h
+  tied-small : (m : ℕ) → Listed m (ties N v) → m < 2 ^ 64
+  unfolding ties
+  tied-small m h = members-lt 64 m small
     where
-      both : (x y : ℕ) → union (attribute x) (attribute y) < 2 ^ 64
-      both x y = union-lt 64 (attribute x) (attribute y) (single-lt 64 x) (single-lt 64 y)
-
-  set-small : v .kind ≡ 8 → reads v < 2 ^ 64
-  unfolding reads usesSet anyOf
-  set-small e = rw e (members-lt 64 (v .set) small)
-    where
-      step : v .kind ≡ 0 → ⊥
-      step z = omega arith
-
-      small : (k : ℕ) → In k (v .set) → k < 64
-      small k h =
-          let lower : v .left < i = sound .node i l .left-lower (step-uses-left (v .kind) step) in
-          omega (arith, visible-below N sound (v .left) k (omega arith) (sound .node i l .set-visible step (rw e refl) k h), sound .counts .attributes-most)
-
-  tied-small : (m : ℕ) → Listed m (ties v) → m < 2 ^ 64
-  unfolding ties readTogether
-  tied-small m h = go (eqb (v .kind) 3) (eqb (v .kind) 5) (eqb (v .kind) 8) refl refl refl h
-    where
-      same : reads v < 2 ^ 64 → Listed m (reads v ∷ []) → m < 2 ^ 64
-      same small = ⊎-elim (λ e. rw e small) (λ q. absurd q)
-
-      go : (a b c : Bool) → eqb (v .kind) 3 ≡ a → eqb (v .kind) 5 ≡ b → eqb (v .kind) 8 ≡ c
-          → Listed m (if a then reads v ∷ [] else if b then reads v ∷ [] else if c then reads v ∷ [] else []) → m < 2 ^ 64
-      go true b c p q r h = same (pair-small (inl (eqb-true (v .kind) 3 p))) h
-      go false true c p q r h = same (pair-small (inr (eqb-true (v .kind) 5 q))) h
-      go false false true p q r h = same (set-small (eqb-true (v .kind) 8 r)) h
-      go false false false p q r h = absurd h
+      small : (k : ℕ) → In k m → k < 64
+      small k q =
+          let r = together-read N v m (some-listed m (readTogether N v) .1 h) k q in
+          let s = reads-step N v k r in
+          let below = operand-map N sound i l s {R = λ c. k < N .header .attributes} (λ c b x. visible-below N sound c k (omega arith) x) (reads-operand N sound i l s k r) in
+          omega (arith, ⊎-elim (λ x. x) (λ x. x .1) below, sound .counts .attributes-most)
 
   -- a leaf has tied nothing
   pub leaf-untied : v .kind ≡ 0 → (m : ℕ) → TiedAt N i m → ⊥
   unfolding ties readTogether usesLeft usesRight anyOf
   leaf-untied e m h = ⊎-elim no-ties (⊎-elim (λ w. clash (sym (w .0) ∙ rw e refl)) (λ w. clash (sym (w .0) ∙ rw e refl))) (tied-by N i m h)
     where
-      no-ties : Listed m (ties v) → ⊥
+      no-ties : Listed m (ties N v) → ⊥
       no-ties h = rw e at h
 
   leaf-classes : v .kind ≡ 0 → Classes (TiedAt N i) (tableOf N i .tied)
@@ -103,17 +82,17 @@ module _ (N : Night) (sound : Promised N) (i : ℕ) (l : i < N .header .nodes) w
           → Classes (TiedAt N i)
           (tieAll
           ((if b then joined (leastView (v .needed) (tableOf N (v .left))) (leastView (v .needed) (operandOf N i (v .right))) else leastView (v .needed) (tableOf N (v .left))) .tied)
-          (ties v))
+          (ties N v))
       go true e =
           let right-lower : v .right < i = sound .node i l .right-lower e in
           rw (lt-ltb (v .right) i right-lower)
           (same-classes _ (TiedAt N i) _ (λ m. ⊎-elim here (⊎-elim (under-left uses) (under-right e)))
           (λ m h. ⊎-elim inl (⊎-elim (λ w. inr (inl (w .1))) (λ w. inr (inr (w .1)))) (tied-by N i m h))
-          (tie-all-classes _ _ (ties v) tied-small (merged-classes _ _ _ _ (lower (v .left) left-lower) (lower (v .right) right-lower))))
+          (tie-all-classes _ _ (ties N v) tied-small (merged-classes _ _ _ _ (lower (v .left) left-lower) (lower (v .right) right-lower))))
       go false e =
           same-classes _ (TiedAt N i) _ (λ m. ⊎-elim here (under-left uses))
           (λ m h. ⊎-elim inl (⊎-elim (λ w. inr (w .1)) (λ w. absurd (clash (sym (w .0) ∙ e)))) (tied-by N i m h))
-          (tie-all-classes _ _ (ties v) tied-small (lower (v .left) left-lower))
+          (tie-all-classes _ _ (ties N v) tied-small (lower (v .left) left-lower))
 
 below-classes : (N : Night) → Promised N → (m i : ℕ) → i < m → i < N .header .nodes → Classes (TiedAt N i) (tableOf N i .tied)
 below-classes N sound zero i q l = absurd (omega arith)

@@ -120,7 +120,7 @@ module _ (N : Night) (sound : Promised N) where
       go true e lower = absurd (in-none a (rw (leaf i l (eqb-true (nodeOf N i .kind) 0 e)) at h))
       go false e lower =
           let s = eqb-false (nodeOf N i .kind) 0 e in
-          ⊎-elim (of-lower i l s lower) (λ t. of-lower i l s (λ c b. shown-below c a (omega arith)) (reads-operand N sound i l s a (tests-read (nodeOf N i) a t))) (step i a l s h)
+          ⊎-elim (of-lower i l s lower) (λ t. of-lower i l s (λ c b. shown-below c a (omega arith)) (reads-operand N sound i l s a (tests-read N (nodeOf N i) a t))) (step i a l s h)
 
   tested-below : (i a : ℕ) → i < n → In a (tableOf N i .tested) → a < 64
   tested-below i a l =

@@ -8,34 +8,28 @@ use native.Mathlib.Omega.{arith}
 use lib.Dec.{eqb}
 use borrow.Author.Tests.{eqb-true, eqb-false}
 use Rattle.laws.specs.Choose.{if_then_else_, anyOf}
+use Rattle.laws.specs.Upwards.{each}
 use Rattle.sets.specs.Sets.{In, member}
 use Rattle.sets.proofs.Members.{in-member}
 use Rattle.night.specs.declared.Node.{Node}
 use Rattle.night.specs.Night.{Night, nodeOf}
-use Rattle.night.specs.Kinds.{usesLeft, usesRight, attribute, reads, readTogether}
+use Rattle.night.specs.Kinds.{usesLeft, usesRight, attribute, itsPair, bothOf, reads, readTogether}
 use Rattle.night.specs.Promised.{Promised}
 use Rattle.night.proofs.Visible.{OfOperand, step-uses-left}
 use Rattle.run.specs.Keys.{Plan}
 use Rattle.model.specs.Ties.{Classes}
 use Rattle.model.specs.Tables.{tableOf, tests, ties, Listed, TiedAt, here, under-left, under-right}
 use Rattle.run.specs.Run.{Form, absent, Past, Held, testedBy, tiedBy, Some, Tested, Tied, leaving, openedBy, together, leafHeld, resultOver, resultOf, leftOpened, rightOpened, opened}
+use Rattle.model.proofs.Together.{some-append, some-listed}
 use Rattle.model.proofs.Shown.{tests-read}
 use Rattle.model.proofs.Lowest.{clash}
 use Rattle.model.proofs.Chains.{same-classes}
 use Rattle.model.proofs.Meaning.{tied-by, leaf-untied, tied-meaning}
 use Rattle.model.proofs.HeldLaws.{held-leaf, held-step, left-comes, right-comes, right-none}
 
--- one of two lists
-pub some-append : {A : Type 0} (Q : A → Type 0) (xs ys : List A) → Some Q (xs ++ ys) ↔ (Some Q xs ⊎ Some Q ys)
-some-append Q [] ys = (inr, ⊎-elim (λ h. absurd h) (λ h. h))
-some-append Q (x ∷ xs) ys = (
-  ⊎-elim (λ h. inl (inl h)) (λ h. ⊎-elim (λ q. inl (inr q)) inr (some-append Q xs ys .0 h)),
-  ⊎-elim (⊎-elim inl (λ h. inr (some-append Q xs ys .1 (inl h)))) (λ h. inr (some-append Q xs ys .1 (inr h))),
-)
-
 -- the step that node i adds to the past
 abbrev stepPast : Night → Plan → ℕ → Past
-stepPast N p i = record { node = i; kind = nodeOf N i .kind; read = λ a. if member (reads (nodeOf N i)) a then opened N p i .column a else absent }
+stepPast N p i = record { node = i; kind = nodeOf N i .kind; read = λ a. if member (reads N (nodeOf N i)) a then opened N p i .column a else absent }
 
 module _ (N : Night) (p : Plan) where
   -- sealing and opening leave a past as it is
@@ -91,7 +85,7 @@ module _ (N : Night) (p : Plan) where
     leaf-past i l e h = rw (held-leaf N p i l e) at h
 
 -- what a step tests, and what it ties, in the run's words and in the profile's
-same-tests : (v : Node) → testedBy (v .kind) v ≡ tests v
+pub same-tests : (v : Node) → testedBy (v .kind) v ≡ tests v
 unfolding testedBy tests anyOf
 same-tests v = go (eqb (v .kind) 2) (eqb (v .kind) 6) (eqb (v .kind) 7)
   where
@@ -103,21 +97,20 @@ same-tests v = go (eqb (v .kind) 2) (eqb (v .kind) 6) (eqb (v .kind) 7)
     go false false true = refl
     go false false false = refl
 
-pub same-ties : (v : Node) → tiedBy (v .kind) v ≡ ties v
+pub same-ties : (N : Night) (v : Node) → tiedBy N (v .kind) v ≡ ties N v
 unfolding tiedBy ties readTogether anyOf
-same-ties v = go (eqb (v .kind) 3) (eqb (v .kind) 5) (eqb (v .kind) 8)
+same-ties N v = go (eqb (v .kind) 3) (eqb (v .kind) 5) (eqb (v .kind) 8)
   where
+    pairs : List ℕ
+    pairs = if eqb (v .kind) 9 then each (v .count) (λ k. bothOf (itsPair N v k)) else []
+
     go : (a b c : Bool)
-        → (if (if a then true else if b then true else if c then true else false) then reads v ∷ [] else [])
-        ≡ (if a then reads v ∷ [] else if b then reads v ∷ [] else if c then reads v ∷ [] else [])
+        → (if (if a then true else if b then true else if c then true else false) then reads N v ∷ [] else pairs)
+        ≡ (if a then reads N v ∷ [] else if b then reads N v ∷ [] else if c then reads N v ∷ [] else pairs)
     go true b c = refl
     go false true c = refl
     go false false true = refl
     go false false false = refl
-
-pub some-listed : (m : ℕ) (ts : List ℕ) → Some (λ t. m ≡ t) ts ↔ Listed m ts
-some-listed m [] = (λ h. h, λ h. h)
-some-listed m (t ∷ ts) = (⊎-elim inl (λ h. inr (some-listed m ts .0 h)), ⊎-elim inl (λ h. inr (some-listed m ts .1 h)))
 
 module _ (N : Night) (p : Plan) (sound : Promised N) where
   -- a leaf's past is none; a step's past tested what its operands' did, and what the step tests, in the form that it then had
@@ -142,7 +135,7 @@ module _ (N : Night) (p : Plan) (sound : Promised N) where
       v = nodeOf N i
 
       read : In a (tests v) → stepPast N p i .read a ≡ opened N p i .column a
-      read t = rw (in-member (reads v) a (tests-read v a t)) refl
+      read t = rw (in-member (reads N v) a (tests-read N v a t)) refl
 
   -- what a node's past tied is what it or a node under it ties
   module _ (i m : ℕ) (l : i < N .header .nodes) where
@@ -165,8 +158,8 @@ module _ (N : Night) (p : Plan) (sound : Promised N) where
           (tied-by N i m h)),
     )
       where
-        own : Some (λ t. m ≡ t) (tiedBy (v .kind) v) ↔ Listed m (ties v)
-        own = rw (same-ties v) (some-listed m (ties v))
+        own : Some (λ t. m ≡ t) (tiedBy N (v .kind) v) ↔ Listed m (ties N v)
+        own = rw (same-ties N v) (some-listed m (ties N v))
 
         uses : usesLeft (v .kind) ≡ true
         uses = step-uses-left (v .kind) s

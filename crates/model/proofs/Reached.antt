@@ -24,7 +24,7 @@ use Rattle.model.proofs.PastLaws.{same-ties}
 
 -- a set is tied by a node below n
 abbrev pub TiedBelow : Night → ℕ → ℕ → Type 0
-TiedBelow N n m = (j : ℕ) × (j < n) × Listed m (ties (nodeOf N j))
+TiedBelow N n m = (j : ℕ) × (j < n) × Listed m (ties N (nodeOf N j))
 
 -- y is in the set, or linked with a member of it
 abbrev From : (ℕ → Type 0) → ℕ → ℕ → Type 0
@@ -91,9 +91,9 @@ over-lt (t ∷ ts) s f h = over-lt ts (met s t) (λ m q. f m (inr q)) (met-lt s 
 
 -- over the nodes below n
 module _ (N : Night) where
-  spread-more : (n s : ℕ) → spread N (suc n) s ≡ spreadOver (ties (nodeOf N n)) (spread N n s)
+  spread-more : (n s : ℕ) → spread N (suc n) s ≡ spreadOver (ties N (nodeOf N n)) (spread N n s)
   unfolding spread
-  spread-more n s = rw (same-ties (nodeOf N n)) refl
+  spread-more n s = rw (same-ties N (nodeOf N n)) refl
 
   spread-none : (s : ℕ) → spread N 0 s ≡ s
   unfolding spread
@@ -101,26 +101,26 @@ module _ (N : Night) where
 
   spread-keeps : (n s : ℕ) → Within s (spread N n s)
   spread-keeps zero s a h = rw (spread-none s) h
-  spread-keeps (suc n) s a h = rw (spread-more n s) (over-keeps (ties (nodeOf N n)) (spread N n s) a (spread-keeps n s a h))
+  spread-keeps (suc n) s a h = rw (spread-more n s) (over-keeps (ties N (nodeOf N n)) (spread N n s) a (spread-keeps n s a h))
 
   spread-adds : (n s t x y : ℕ) → TiedBelow N n t → In x s → In x t → In y t → In y (spread N n s)
   spread-adds zero s t x y w hs ht h = absurd (omega (arith, w .1))
   spread-adds (suc n) s t x y w hs ht h =
       rw (spread-more n s)
-      (⊎-elim (λ e. over-adds (ties (nodeOf N n)) (spread N n s) t x y (rw e at (w .2)) (spread-keeps n s x hs) ht h)
-      (λ l. over-keeps (ties (nodeOf N n)) (spread N n s) y (spread-adds n s t x y (w .0, l, w .2) hs ht h))
+      (⊎-elim (λ e. over-adds (ties N (nodeOf N n)) (spread N n s) t x y (rw e at (w .2)) (spread-keeps n s x hs) ht h)
+      (λ l. over-keeps (ties N (nodeOf N n)) (spread N n s) y (spread-adds n s t x y (w .0, l, w .2) hs ht h))
       (eq-or-lt-of-le (le-of-suc-le-suc (w .1))))
 
   spread-from : (T : ℕ → Type 0) (n s y : ℕ) → ((m : ℕ) → TiedBelow N n m → T m) → In y (spread N n s) → From T s y
   spread-from T zero s y f h = inl (rw (spread-none s) at h)
   spread-from T (suc n) s y f h =
       from-twice T (spread N n s) s y (λ x. spread-from T n s x (λ m w. f m (w .0, omega (arith, w .1), w .2)))
-      (over-from T (ties (nodeOf N n)) (spread N n s) y (λ m q. f m (n, omega arith, q)) (rw (spread-more n s) at h))
+      (over-from T (ties N (nodeOf N n)) (spread N n s) y (λ m q. f m (n, omega arith, q)) (rw (spread-more n s) at h))
 
   spread-lt : (n s : ℕ) → ((m : ℕ) → TiedBelow N n m → m < 2 ^ 64) → s < 2 ^ 64 → spread N n s < 2 ^ 64
   spread-lt zero s f h = rw (spread-none s) h
   spread-lt (suc n) s f h =
-      rw (spread-more n s) (over-lt (ties (nodeOf N n)) (spread N n s) (λ m q. f m (n, omega arith, q)) (spread-lt n s (λ m w. f m (w .0, omega (arith, w .1), w .2)) h))
+      rw (spread-more n s) (over-lt (ties N (nodeOf N n)) (spread N n s) (λ m q. f m (n, omega arith, q)) (spread-lt n s (λ m w. f m (w .0, omega (arith, w .1), w .2)) h))
 
 module _ (N : Night) (sound : Promised N) where
   abbrev n : ℕ

@@ -34,7 +34,7 @@ module _ (N : Night) (sound : Promised N) (i : ℕ) (l : i < N .header .nodes) (
         → Lies column implicit S (tableOf N i)
     result-lies left right a =
         ⊎-elim (λ h. let w = made a h in was-shown (w .0) (visible-operand N sound i l s a (w .1)))
-        (λ h. ⊎-elim (from (λ c b lies q. lies a (inr (keeps a c q)))) (λ w. was-shown (w .1) (reads-operand N sound i l s a (tests-read (nodeOf N i) a (w .0)))) (tested a h))
+        (λ h. ⊎-elim (from (λ c b lies q. lies a (inr (keeps a c q)))) (λ w. was-shown (w .1) (reads-operand N sound i l s a (tests-read N (nodeOf N i) a (w .0)))) (tested a h))
       where
         from : {Q : ℕ → Type 0} → ((c : ℕ) → c < i → Lies column implicit S (view c) → Q c → S a) → OfOperand N i Q → S a
         from = at-operand N sound i l s {H = λ c. Lies column implicit S (view c)} left right

@@ -94,7 +94,7 @@ module _ (N : Night) (p : Plan) (sound : Promised N) (free : (i : ℕ) → i < N
       go true e lower = absurd (in-none a (rw (leaf-hidden N sound i l (eqb-true _ 0 e)) at h))
       go false e lower =
           ⊎-elim (λ x. above (operand-map N sound i l s lower x))
-          (λ x. own (x .0) (opened N p i .column a) refl (operand-there N p sound i a l s (reads-operand N sound i l s a (tests-read _ a (x .0)))))
+          (λ x. own (x .0) (opened N p i .column a) refl (operand-there N p sound i a l s (reads-operand N sound i l s a (tests-read N _ a (x .0)))))
           (step-hidden N sound i l s a .0 h)
         where
           s : nodeOf N i .kind ≡ 0 → ⊥

@@ -64,9 +64,9 @@ module _ (needed : ℕ) (l r : Table) where
   )
 
 -- what a step tests it reads
-pub tests-read : (v : Node) (a : ℕ) → In a (tests v) → In a (reads v)
+pub tests-read : (N : Night) (v : Node) (a : ℕ) → In a (tests v) → In a (reads N v)
 unfolding tests reads
-tests-read v a h =
+tests-read N v a h =
     ⊎-elim (λ w. rw (w .0) (w .1)) (λ h.
     ⊎-elim (λ w. rw (w .0) (in-union (v .set) (attribute (v .x)) a .1 (inl (w .1)))) (λ h.
     ⊎-elim (λ w. rw (w .0) (w .1)) (λ h. absurd (in-none a h))
@@ -104,7 +104,7 @@ module _ (N : Night) (sound : Promised N) (i : ℕ) (l : i < N .header .nodes) w
     left-lower : v .left < i
     left-lower = sound .node i l .left-lower (step-uses-left (v .kind) s)
 
-    table-made : tableOf N i ≡ result v (visible N i) b
+    table-made : tableOf N i ≡ result N v (visible N i) b
     unfolding stepTable
     table-made =
         table-step N i l s
@@ -116,8 +116,8 @@ module _ (N : Night) (sound : Promised N) (i : ℕ) (l : i < N .header .nodes) w
         right-shown e = rw (lt-ltb (v .right) i (sound .node i l .right-lower e)) (lower (v .right) (sound .node i l .right-lower e))
 
         go : (t : Bool) → usesRight (v .kind) ≡ t
-            → result v (visible N i) (both t (v .needed) (tableOf N (v .left)) (operandOf N i (v .right)))
-            ≡ result v (visible N i) (both t (v .needed) (tableOf N (v .left)) (tableOf N (v .right)))
+            → result N v (visible N i) (both t (v .needed) (tableOf N (v .left)) (operandOf N i (v .right)))
+            ≡ result N v (visible N i) (both t (v .needed) (tableOf N (v .left)) (tableOf N (v .right)))
         go true e = rw (lt-ltb (v .right) i (sound .node i l .right-lower e)) refl
         go false e = refl
 
@@ -164,7 +164,7 @@ module _ (N : Night) (sound : Promised N) (i : ℕ) (l : i < N .header .nodes) w
       λ h.
           in-union (b .tested) _ a .1
           (⊎-elim (λ x. inl (rw (both-tested (v .needed) (tableOf N (v .left)) (tableOf N (v .right)) u) (in-both u _ _ a .1 x)))
-          (λ x. inr (in-meet (tests v) (b .clear) a .1 (x .0, in-both-clear (v .needed) _ _ u a .1 (x .1, seen a .1 (reads-operand N sound i l s a (tests-read v a (x .0)))))))
+          (λ x. inr (in-meet (tests v) (b .clear) a .1 (x .0, in-both-clear (v .needed) _ _ u a .1 (x .1, seen a .1 (reads-operand N sound i l s a (tests-read N v a (x .0)))))))
           h),
     )
 
@@ -180,7 +180,7 @@ module _ (N : Night) (sound : Promised N) (i : ℕ) (l : i < N .header .nodes) w
       λ h.
           in-union (b .hidden) _ a .1
           (⊎-elim (λ x. inl (rw (both-hidden (v .needed) (tableOf N (v .left)) (tableOf N (v .right)) u) (in-both u _ _ a .1 x)))
-          (λ x. inr (in-meet (tests v) (b .sealed) a .1 (x .0, in-both-sealed (v .needed) _ _ u a .1 (x .1, seen a .1 (reads-operand N sound i l s a (tests-read v a (x .0)))))))
+          (λ x. inr (in-meet (tests v) (b .sealed) a .1 (x .0, in-both-sealed (v .needed) _ _ u a .1 (x .1, seen a .1 (reads-operand N sound i l s a (tests-read N v a (x .0)))))))
           h),
     )
 

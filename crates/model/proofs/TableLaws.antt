@@ -10,16 +10,16 @@ use lib.Dec.{ltb}
 use lib.ListN.{getD}
 use borrow.Author.Tests.{ltb-true, ltb-false, lt-ltb, eq-eqb, ne-eqb}
 use Rattle.laws.specs.Choose.{if_then_else_, anyOf}
-use Rattle.laws.specs.Upwards.{upwards}
+use Rattle.laws.specs.Upwards.{upwards, each}
 use Rattle.laws.proofs.Upwards.{upwards-at, upwards-past}
 use Rattle.sets.specs.Sets.{bit, member, union, meet, minus}
 use Rattle.sets.proofs.Members.{bit-lt, bit-meet, bit-union, bit-minus, same-members}
 use Rattle.night.specs.Night.{Night, nodeOf}
-use Rattle.night.specs.Kinds.{attribute, reads, readTogether, usesRight, visibleAfter}
+use Rattle.night.specs.Kinds.{attribute, itsPair, bothOf, reads, readTogether, usesRight, visibleAfter}
 use Rattle.model.specs.declared.Table.{Table}
 use Rattle.model.proofs.Chains.{tie-single}
 use Rattle.model.specs.Ties.{gathered, tie, merged}
-use Rattle.model.specs.Tables.{blank, shown, leastView, tests, ties, joined, result, leafTable, stepTable, FunctionTies, tableStep, tables, tableOf}
+use Rattle.model.specs.Tables.{blank, shown, leastView, tests, ties, tieAll, joined, result, leafTable, stepTable, FunctionTies, tableStep, tables, tableOf}
 
 -- one attribute more is gathered
 pub gathered-none : (t : List ℕ) (s : ℕ) → gathered t s 0 ≡ s
@@ -85,7 +85,7 @@ unfolding tableStep
 table-leaf N i h e = table-made N i h ∙ rw (eq-eqb (nodeOf N i .kind) 0 e) refl
 
 pub table-step : (N : Night) (i : ℕ) → i < N .header .nodes → (nodeOf N i .kind ≡ 0 → ⊥)
-    → tableOf N i ≡ stepTable (nodeOf N i) (operandOf N i (nodeOf N i .left)) (operandOf N i (nodeOf N i .right))
+    → tableOf N i ≡ stepTable N (nodeOf N i) (operandOf N i (nodeOf N i .left)) (operandOf N i (nodeOf N i .right))
 unfolding tableStep
 table-step N i h no-leaf =
     table-made N i h ∙ rw (ne-eqb (nodeOf N i .kind) 0 no-leaf, operand-made N i (nodeOf N i .left) h, operand-made N i (nodeOf N i .right) h) refl
@@ -116,13 +116,13 @@ rightView N i = leastView (nodeOf N i .needed) (tableOf N (nodeOf N i .right))
 
 -- the table of a step by its kind, where its operands are lower
 module _ (N : Night) (i : ℕ) (known : i < N .header .nodes) (left-lower : nodeOf N i .left < i) where
-  one-operand : (k : ℕ) → nodeOf N i .kind ≡ suc k → tableOf N i ≡ stepTable (nodeOf N i) (tableOf N (nodeOf N i .left)) (operandOf N i (nodeOf N i .right))
+  one-operand : (k : ℕ) → nodeOf N i .kind ≡ suc k → tableOf N i ≡ stepTable N (nodeOf N i) (tableOf N (nodeOf N i .left)) (operandOf N i (nodeOf N i .right))
   one-operand k e = table-step N i known (λ z. omega arith) ∙ rw (lt-ltb (nodeOf N i .left) i left-lower) refl
 
   all-stays : shown (leftView N i) ≡ shown (tableOf N (nodeOf N i .left))
   all-stays = shown-least (nodeOf N i .needed) (tableOf N (nodeOf N i .left))
 
-  two-operands : (k : ℕ) → nodeOf N i .kind ≡ suc k → nodeOf N i .right < i → tableOf N i ≡ stepTable (nodeOf N i) (tableOf N (nodeOf N i .left)) (tableOf N (nodeOf N i .right))
+  two-operands : (k : ℕ) → nodeOf N i .kind ≡ suc k → nodeOf N i .right < i → tableOf N i ≡ stepTable N (nodeOf N i) (tableOf N (nodeOf N i .left)) (tableOf N (nodeOf N i .right))
   two-operands k e l = one-operand k e ∙ rw (lt-ltb (nodeOf N i .right) i l) refl
 
   both-stay : union (shown (tableOf N (nodeOf N i .left))) (shown (tableOf N (nodeOf N i .right))) ≡ shown (joined (leftView N i) (rightView N i))
@@ -224,7 +224,20 @@ module _ (N : Night) (i : ℕ) (known : i < N .header .nodes) (left-lower : node
   unfolding stepTable result tests ties reads readTogether visibleAfter usesRight anyOf
   table-function e = one-operand 7 e ∙ rw (e, ← all-stays) (simp (meet-none, union-none))
 
+  -- join on pairs: all of both, and each pair is tied, one after the other
+  pub table-pairs : nodeOf N i .right < i → nodeOf N i .kind ≡ 9
+      → tableOf N i
+      ≡ record {
+        clear = union (leftView N i .clear) (rightView N i .clear);
+        sealed = union (leftView N i .sealed) (rightView N i .sealed);
+        tested = union (leftView N i .tested) (rightView N i .tested);
+        hidden = union (leftView N i .hidden) (rightView N i .hidden);
+        tied = tieAll (merged (leftView N i .tied) (rightView N i .tied) 64) (each (nodeOf N i .count) (λ k. bothOf (itsPair N (nodeOf N i) k)));
+      }
+  unfolding stepTable result tests ties reads readTogether visibleAfter usesRight anyOf joined
+  table-pairs l e = two-operands 8 e l ∙ rw (e, both-stay) (simp (meet-none, union-none, meet-union-left, meet-union-right))
+
 -- a user function over one attribute
 pub function-ties : FunctionTies
 unfolding stepTable result leastView ties readTogether reads usesRight anyOf
-function-ties v a l r low e s = rw (e, s) (tie-single (l .tied) a low)
+function-ties N v a l r low e s = rw (e, s) (tie-single (l .tied) a low)

@@ -20,7 +20,7 @@ module _ (N : Night) (sound : Promised N) (i : ℕ) (l : i < N .header .nodes) (
 
   -- its result over what it has of them; what the right one shows is looked at only where there is one
   pub table-taken : tableOf N i
-      ≡ result v (visibleAfter v (shown (tableOf N (v .left))) (if usesRight (v .kind) then shown (tableOf N (v .right)) else 0)) (takenBy N i)
+      ≡ result N v (visibleAfter v (shown (tableOf N (v .left))) (if usesRight (v .kind) then shown (tableOf N (v .right)) else 0)) (takenBy N i)
   unfolding stepTable takenBy
   table-taken =
       table-step N i l s ∙ rw (lt-ltb (v .left) i (sound .node i l .left-lower (step-uses-left (v .kind) s))) (go (usesRight (v .kind)) refl)
@@ -29,7 +29,7 @@ module _ (N : Night) (sound : Promised N) (i : ℕ) (l : i < N .header .nodes) (
       left = tableOf N (v .left)
 
       go : (b : Bool) → usesRight (v .kind) ≡ b
-          → result v (visibleAfter v (shown left) (shown (operandOf N i (v .right)))) (both b (v .needed) left (operandOf N i (v .right)))
-          ≡ result v (visibleAfter v (shown left) (if b then shown (tableOf N (v .right)) else 0)) (both b (v .needed) left (tableOf N (v .right)))
+          → result N v (visibleAfter v (shown left) (shown (operandOf N i (v .right)))) (both b (v .needed) left (operandOf N i (v .right)))
+          ≡ result N v (visibleAfter v (shown left) (if b then shown (tableOf N (v .right)) else 0)) (both b (v .needed) left (tableOf N (v .right)))
       go true u = rw (lt-ltb (v .right) i (sound .node i l .right-lower u)) refl
       go false u = rw (left-alone v (shown left) (shown (operandOf N i (v .right))) 0 u) refl

@@ -33,9 +33,10 @@ use Rattle.model.proofs.Kept.{left-step, right-step}
 use Rattle.model.proofs.Sees.{may-sees}
 use Rattle.model.proofs.Shown.{tests-read}
 use Rattle.model.proofs.HeldLaws.{There, held-absent, left-comes, right-comes, right-none, leaf-column, step-column}
-use Rattle.model.proofs.PastLaws.{some-listed, leaf-untested, step-tested-past, past-tied}
+use Rattle.model.proofs.Together.{some-listed, together-read}
+use Rattle.model.proofs.PastLaws.{leaf-untested, step-tested-past, past-tied}
 use Rattle.model.proofs.KeyLaws.{ever, seals-ever, user-held}
-use Rattle.model.proofs.BuiltFree.{together-reads, built-free}
+use Rattle.model.proofs.BuiltFree.{built-free}
 use Rattle.model.proofs.RunCandidates.{run-candidates}
 
 -- a column that is there after sealing or opening was there before
@@ -79,16 +80,14 @@ module _ (N : Night) (sound : Promised N) (P E : ℕ) (leaves : (i : ℕ) → i 
   seen : (i a : ℕ) → i < n → In a (visible N i) → In a P
   seen i a l h = all-visible (suc i) i (omega arith) l a h
 
-  seen-read : (i a : ℕ) → i < n → In a (reads (nodeOf N i)) → In a P
+  seen-read : (i a : ℕ) → i < n → In a (reads N (nodeOf N i)) → In a P
   seen-read i a l h =
-      let s = reads-step (nodeOf N i) a h in
+      let s = reads-step N (nodeOf N i) a h in
       ⊎-elim (λ x. x) (λ x. x .1) (operand-map N sound i l s {R = λ c. In a P} (λ c q. seen c a (omega arith)) (reads-operand N sound i l s a h))
 
   seen-tied : {i m : ℕ} (a : ℕ) → i < n → TiedAt N i m → In a m → In a P
   unfolding ties
-  seen-tied {i} {m} a l (here h) q =
-      let same = together-reads (nodeOf N i) m (some-listed m (readTogether (nodeOf N i)) .1 h) in
-      seen-read i a l (rw same at q)
+  seen-tied {i} {m} a l (here h) q = seen-read i a l (together-read N (nodeOf N i) m (some-listed m (readTogether N (nodeOf N i)) .1 h) a q)
   seen-tied {i} a l (under-left u h) q = seen-tied a (omega (arith, sound .node i l .left-lower u)) h q
   seen-tied {i} a l (under-right u h) q = seen-tied a (omega (arith, sound .node i l .right-lower u)) h q
 
@@ -101,7 +100,7 @@ module _ (N : Night) (sound : Promised N) (P E : ℕ) (leaves : (i : ℕ) → i 
         go true e lower = absurd (leaf-untested N p sound i a f l (eqb-true _ 0 e) h)
         go false e lower =
             let s = eqb-false (nodeOf N i .kind) 0 e in
-            ⊎-elim (λ w. ⊎-elim (λ x. x) (λ x. x .1) (operand-map N sound i l s {R = λ c. In a P} lower w)) (λ w. seen-read i a l (tests-read (nodeOf N i) a (w .0)))
+            ⊎-elim (λ w. ⊎-elim (λ x. x) (λ x. x .1) (operand-map N sound i l s {R = λ c. In a P} lower w)) (λ w. seen-read i a l (tests-read N (nodeOf N i) a (w .0)))
             (step-tested-past N p sound i a f l s .0 h)
 
     -- and is forbidden no table that has a node's past and none but its columns

@@ -5,6 +5,7 @@ pub mod Candidates
 pub mod Reasons
 pub mod Standings
 pub mod OneTest
+pub mod OnePair
 pub mod Choice
 pub mod Order
 pub mod Dp

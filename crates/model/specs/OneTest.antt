@@ -17,7 +17,7 @@ use Rattle.model.specs.declared.Table.{Table}
 use Rattle.model.specs.Ties.{untied, gathered, tie, Classes}
 use Rattle.model.specs.Tables.{leastView, joined, tableOf}
 use Rattle.model.specs.Candidates.{clearOffends, sealedOffends, ClearHolds, SealedHolds, TiedHolds, Candidate, candidateSet}
-use Rattle.model.specs.Standings.{these, aNode, joins, inClear}
+use Rattle.model.specs.Standings.{these, aNode, joins, joinsOn, inClear}
 
 -- what step i has of its operands: their least views, joined where there are two
 unfoldable pub takenBy : Night → ℕ → Table
@@ -75,7 +75,7 @@ pub data Under (N : Night) : ℕ → ℕ → Type 0 where
 abbrev pub threeViews : Night
 threeViews =
     record {
-      header = record { version = 1; subjects = 3; relations = 1; attributes = 3; nodes = 0; grants = 3; steps = 0; user = 0 };
+      header = record { version = 1; subjects = 3; relations = 1; attributes = 3; nodes = 0; grants = 3; steps = 0; user = 0; pairs = 0 };
       relations = record { owner = 0; set = these (0 ∷ 1 ∷ 2 ∷ []) } ∷ [];
       grants =
           record { relation = 0; subject = 0; clear = these (0 ∷ 1 ∷ []); sealed = 0 }
@@ -83,6 +83,7 @@ threeViews =
           ∷ record { relation = 0; subject = 2; clear = 0; sealed = these (0 ∷ 1 ∷ []) }
           ∷ [];
       nodes = [];
+      pairs = [];
       stepPrices = [];
       linkPrices = [];
     }
@@ -93,7 +94,7 @@ threeViews =
 abbrev pub fiveViews : Night
 fiveViews =
     record {
-      header = record { version = 1; subjects = 5; relations = 2; attributes = 41; nodes = 5; grants = 11; steps = 0; user = 0 };
+      header = record { version = 1; subjects = 5; relations = 2; attributes = 41; nodes = 5; grants = 11; steps = 0; user = 0; pairs = 0 };
       relations = record { owner = 0; set = these (0 ∷ 1 ∷ []) } ∷ record { owner = 0; set = these (40 ∷ []) } ∷ [];
       grants =
           record { relation = 0; subject = 0; clear = these (0 ∷ 1 ∷ []); sealed = 0 }
@@ -115,6 +116,7 @@ fiveViews =
           ∷ aNode 2 2 255 0 255 0 (these (0 ∷ []))
           ∷ aNode 1 3 255 255 255 (these (0 ∷ [])) 0
           ∷ [];
+      pairs = [];
       stepPrices = [];
       linkPrices = [];
     }
@@ -151,3 +153,8 @@ pub record SmallTests : Type 0 where
   pub third-passes : passesBoth (takenBy fiveViews 4) (clearOf fiveViews 3) (sealedOf fiveViews 3) ≡ true
   -- {1, 40} and then {0, 40} make {0, 1, 40}, which 0 sees in clear and 2 sealed
   pub grown : outOf fiveViews (tie (tie untied (these (1 ∷ 40 ∷ []))) (these (0 ∷ 40 ∷ []))) ≡ 26
+  -- two pairs that share no attribute are two tied sets, two that share one are one
+  pub pairs-apart :
+      (getD (tableOf (joinsOn 0 2 0) 2 .tied) 0 0 ≡ these (0 ∷ 3 ∷ [])) × (getD (tableOf (joinsOn 0 2 0) 2 .tied) 4 0 ≡ these (1 ∷ 4 ∷ []))
+  pub pairs-shared :
+      (getD (tableOf (joinsOn 1 2 0) 2 .tied) 4 0 ≡ these (1 ∷ 4 ∷ 5 ∷ [])) × (getD (tableOf (joinsOn 1 2 0) 2 .tied) 5 0 ≡ these (1 ∷ 4 ∷ 5 ∷ []))

@@ -16,16 +16,17 @@ these (k ∷ ks) = union (attribute k) (these ks)
 
 abbrev pub aNode : ℕ → ℕ → ℕ → ℕ → ℕ → ℕ → ℕ → Node
 aNode kind left right x y set needed =
-    record { kind = kind; left = left; right = right; x = x; y = y; spare1 = 0; spare2 = 0; spare3 = 0; set = set; needed = needed; size = 0 }
+    record { kind = kind; left = left; right = right; x = x; y = y; spare1 = 0; spare2 = 0; spare3 = 0; set = set; needed = needed; size = 0; first = 0; count = 0 }
 
 -- a night of these nodes: what is seen is handed in beside it, so it has no relations and no grants
 abbrev pub nodesOf : ℕ → List Node → Night
 nodesOf n nodes =
     record {
-      header = record { version = 1; subjects = 1; relations = 2; attributes = 6; nodes = n; grants = 0; steps = 0; user = 0 };
+      header = record { version = 1; subjects = 1; relations = 2; attributes = 6; nodes = n; grants = 0; steps = 0; user = 0; pairs = 0 };
       relations = [];
       grants = [];
       nodes = nodes;
+      pairs = [];
       stepPrices = [];
       linkPrices = [];
     }
@@ -53,6 +54,29 @@ itself =
     nodesOf 4
     (aNode 0 255 255 0 255 (these (0 ∷ 1 ∷ [])) 0 ∷ aNode 3 0 255 1 1 0 0
     ∷ aNode 1 1 255 255 255 (these (0 ∷ [])) 0 ∷ aNode 2 2 255 0 255 0 0 ∷ [])
+
+-- a join of nodes 0 and 1 on as many pairs from the first on
+abbrev pub aJoinOn : ℕ → ℕ → ℕ → Node
+aJoinOn first count needed =
+    record { kind = 9; left = 0; right = 1; x = 255; y = 255; spare1 = 0; spare2 = 0; spare3 = 0; set = 0; needed = needed; size = 0; first = first; count = count }
+
+-- attributes 0, 1, 2 and 3, 4, 5, joined on pairs: of 0 with 3, of 1 with 4 and of 1 with 5 as many as the row says from its first on; what the join
+-- needs is left to the row too
+abbrev pub joinsOn : ℕ → ℕ → ℕ → Night
+joinsOn first count needed =
+    record {
+      header = record { version = 3; subjects = 1; relations = 2; attributes = 6; nodes = 3; grants = 0; steps = 0; user = 0; pairs = 3 };
+      relations = [];
+      grants = [];
+      nodes =
+          aNode 0 255 255 0 255 (these (0 ∷ 1 ∷ 2 ∷ [])) 0
+          ∷ aNode 0 255 255 1 255 (these (3 ∷ 4 ∷ 5 ∷ [])) 0
+          ∷ aJoinOn first count needed
+          ∷ [];
+      pairs = record { left = 0; right = 3 } ∷ record { left = 1; right = 4 } ∷ record { left = 1; right = 5 } ∷ [];
+      stepPrices = [];
+      linkPrices = [];
+    }
 
 -- the join needs its attributes, and node 6 the one that it tests; or neither does
 abbrev pub inClear : Night
@@ -93,3 +117,15 @@ pub record Standings : Type 0 where
   -- a tied set of one attribute counts, and lies sealed where that is seen sealed
   pub tied-alone : standing itself 3 (these (0 ∷ [])) 0 ≡ Out 1 3 (these (1 ∷ []))
   pub tied-sealed : standing itself 3 (these (0 ∷ [])) (these (1 ∷ [])) ≡ Candidate
+  -- a join on 0 with 3 and 1 with 4: one pair is seen in clear and the other sealed, and none is needed, or the one, or the other; of the first, or of the
+  -- last, one is seen in clear and one sealed, and just that pair fails
+  pub pairs-each : standing (joinsOn 0 2 0) 2 (these (0 ∷ 2 ∷ 3 ∷ 5 ∷ [])) (these (1 ∷ 4 ∷ [])) ≡ Candidate
+  pub pair-needed : standing (joinsOn 0 2 (these (0 ∷ 3 ∷ []))) 2 (these (0 ∷ 2 ∷ 3 ∷ 5 ∷ [])) (these (1 ∷ 4 ∷ [])) ≡ Candidate
+  pub pair-needed-sealed : standing (joinsOn 0 2 (these (1 ∷ 4 ∷ []))) 2 (these (0 ∷ 2 ∷ 3 ∷ 5 ∷ [])) (these (1 ∷ 4 ∷ [])) ≡ Out 1 1 (these (1 ∷ []))
+  pub pair-half : standing (joinsOn 0 2 0) 2 (these (0 ∷ 1 ∷ 2 ∷ 4 ∷ 5 ∷ [])) (these (3 ∷ [])) ≡ Out 3 3 (these (0 ∷ 3 ∷ []))
+  pub last-pair-half : standing (joinsOn 0 2 0) 2 (these (0 ∷ 1 ∷ 2 ∷ 3 ∷ 5 ∷ [])) (these (4 ∷ [])) ≡ Out 3 3 (these (1 ∷ 4 ∷ []))
+  -- a pair past those that the join names, or before them, is not tied
+  pub pair-past : standing (joinsOn 0 1 0) 2 (these (0 ∷ 1 ∷ 2 ∷ 3 ∷ 5 ∷ [])) (these (4 ∷ [])) ≡ Candidate
+  pub pair-before : standing (joinsOn 1 1 0) 2 (these (0 ∷ 1 ∷ 2 ∷ 4 ∷ 5 ∷ [])) (these (3 ∷ [])) ≡ Candidate
+  -- 1 with 4 and 1 with 5 are one tied set, though each pair is seen whole
+  pub pairs-shared : standing (joinsOn 1 2 0) 2 (these (0 ∷ 1 ∷ 2 ∷ 3 ∷ 4 ∷ [])) (these (1 ∷ 5 ∷ [])) ≡ Out 3 3 (these (1 ∷ 4 ∷ 5 ∷ []))

@@ -43,9 +43,9 @@ tests v =
     if eqb (v .kind) aCount then v .set else
     0
 
--- the sets that the step ties: x and y of kinds 3 and 5, the set of kind 8
-unfoldable pub ties : Node → List ℕ
-ties v = readTogether v
+-- the sets that the step ties: x and y of kinds 3 and 5, the set of kind 8, each pair of kind 9
+unfoldable pub ties : Night → Node → List ℕ
+ties N v = readTogether N v
 
 -- several sets tied one after the other
 abbrev pub tieAll : List ℕ → List ℕ → List ℕ
@@ -65,14 +65,14 @@ joined t u =
 
 -- a step's result, where t is its operands' parts joined and `after` is visible after it: each attribute keeps its form; what is tested
 -- joins the implicit part of the form it has; what is tied is tied. Implicit and tied parts are never removed
-unfoldable pub result : Node → ℕ → Table → Table
-result v after t =
+unfoldable pub result : Night → Node → ℕ → Table → Table
+result N v after t =
     record {
       clear = meet (t .clear) after;
       sealed = meet (t .sealed) after;
       tested = union (t .tested) (meet (tests v) (t .clear));
       hidden = union (t .hidden) (meet (tests v) (t .sealed));
-      tied = tieAll (t .tied) (ties v);
+      tied = tieAll (t .tied) (ties N v);
     }
 
 -- a leaf's table: its set in clear
@@ -80,22 +80,22 @@ unfoldable pub leafTable : Node → Table
 leafTable v = record { clear = v .set; sealed = 0; tested = 0; hidden = 0; tied = untied }
 
 -- a step's table over its operands' tables l and r: its result over their least views
-unfoldable pub stepTable : Node → Table → Table → Table
-stepTable v l r =
-    result v (visibleAfter v (shown l) (shown r))
+unfoldable pub stepTable : Night → Node → Table → Table → Table
+stepTable N v l r =
+    result N v (visibleAfter v (shown l) (shown r))
     (if usesRight (v .kind) then joined (leastView (v .needed) l) (leastView (v .needed) r) else leastView (v .needed) l)
 
 -- a user function over {a} ties {a}, whatever its operand shows and ties: a's tied set is {a} with what a was tied with before
 abbrev pub FunctionTies : Type 0
 FunctionTies =
-    (v : Node) (a : ℕ) (l r : Table) → a < 64 → v .kind ≡ 8 → v .set ≡ attribute a
-    → getD (stepTable v l r .tied) a 0 ≡ union (attribute a) (getD (l .tied) a 0)
+    (N : Night) (v : Node) (a : ℕ) (l r : Table) → a < 64 → v .kind ≡ 8 → v .set ≡ attribute a
+    → getD (stepTable N v l r .tied) a 0 ≡ union (attribute a) (getD (l .tied) a 0)
 
 -- node i's table from those of the nodes before it; an operand that is not lower counts as blank
 unfoldable pub tableStep : Night → List Table → ℕ → Table
 tableStep N before i =
     if eqb (nodeOf N i .kind) aLeaf then leafTable (nodeOf N i) else
-    stepTable (nodeOf N i) (getD before (nodeOf N i .left) blank) (getD before (nodeOf N i .right) blank)
+    stepTable N (nodeOf N i) (getD before (nodeOf N i .left) blank) (getD before (nodeOf N i .right) blank)
 
 -- the tables of all nodes, worked out upwards
 unfoldable pub tables : Night → List Table
@@ -112,7 +112,7 @@ Listed m (s ∷ ss) = (m ≡ s) ⊎ Listed m ss
 
 -- a set was tied by node i or by a node under it
 pub data TiedAt (N : Night) : ℕ → ℕ → Type 0 where
-  here : {i m : ℕ} → Listed m (ties (nodeOf N i)) → TiedAt N i m
+  here : {i m : ℕ} → Listed m (ties N (nodeOf N i)) → TiedAt N i m
   under-left : {i m : ℕ} → usesLeft (nodeOf N i .kind) ≡ true → TiedAt N (nodeOf N i .left) m → TiedAt N i m
   under-right : {i m : ℕ} → usesRight (nodeOf N i .kind) ≡ true → TiedAt N (nodeOf N i .right) m → TiedAt N i m
 

@@ -2,3 +2,4 @@
 pub mod Children
 pub mod Views
 pub mod Visible
+pub mod Kept

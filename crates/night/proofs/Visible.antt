@@ -11,11 +11,12 @@ use Rattle.laws.specs.Choose.{if_then_else_, anyOf}
 use Rattle.laws.specs.Upwards.{upwards}
 use Rattle.laws.proofs.Upwards.{upwards-at}
 use Rattle.sets.specs.Sets.{In, union, minus}
-use Rattle.sets.proofs.Members.{in-union, in-minus, in-none}
+use Rattle.sets.proofs.Members.{in-union, in-minus, in-none, in-unions}
 use Rattle.sets.proofs.Words.{in-single}
 use Rattle.night.specs.declared.Node.{Node}
+use Rattle.night.specs.declared.Pair.{Pair}
 use Rattle.night.specs.Night.{Night, nodeOf}
-use Rattle.night.specs.Kinds.{usesLeft, usesRight, usesX, usesSet, attribute, reads, visibleAfter, visibleStep, visibles, visible}
+use Rattle.night.specs.Kinds.{usesLeft, usesRight, usesX, usesSet, usesPairs, attribute, itsPair, bothOf, pairsRead, reads, visibleAfter, visibleStep, visibles, visible}
 use Rattle.night.specs.Promised.{Promised}
 
 -- where an attribute that is visible after a node comes from
@@ -45,8 +46,9 @@ visible-from v left right k h =
     ⊎-elim (λ w. both (λ z. omega (arith, w .0)) (rw (w .0) refl) (w .1)) (λ h.
     ⊎-elim (λ w. or-x (v .set) (λ q. kept (λ z. omega (arith, w .0)) (rw (w .0) refl) q) (λ z. omega (arith, w .0)) (rw (w .0) refl) (w .1)) (λ h.
     ⊎-elim (λ w. kept (λ z. omega (arith, w .0)) (rw (w .0) refl) (w .1)) (λ h.
-    ⊎-elim (λ w. or-x (minus left (v .set)) (λ q. of-left (λ z. omega (arith, w .0)) (in-minus left (v .set) k .0 q .0)) (λ z. omega (arith, w .0)) (rw (w .0) refl) (w .1)) (λ h. absurd (in-none k h))
-    (pick v 8 _ _ k h)) (pick v 7 _ _ k h)) (pick v 6 _ _ k h)) (pick v 5 _ _ k h)) (pick v 4 _ _ k h)) (pick v 3 _ _ k h)) (pick v 2 _ _ k h)) (pick v 1 _ _ k h)) (pick v 0 _ _ k h)
+    ⊎-elim (λ w. or-x (minus left (v .set)) (λ q. of-left (λ z. omega (arith, w .0)) (in-minus left (v .set) k .0 q .0)) (λ z. omega (arith, w .0)) (rw (w .0) refl) (w .1)) (λ h.
+    ⊎-elim (λ w. both (λ z. omega (arith, w .0)) (rw (w .0) refl) (w .1)) (λ h. absurd (in-none k h))
+    (pick v 9 _ _ k h)) (pick v 8 _ _ k h)) (pick v 7 _ _ k h)) (pick v 6 _ _ k h)) (pick v 5 _ _ k h)) (pick v 4 _ _ k h)) (pick v 3 _ _ k h)) (pick v 2 _ _ k h)) (pick v 1 _ _ k h)) (pick v 0 _ _ k h)
   where
     both : (v .kind ≡ 0 → ⊥) → usesRight (v .kind) ≡ true → In k (union left right) → From v left right k
     both s u q = ⊎-elim (λ l. of-left s l) (λ r. of-right u r) (in-union left right k .0 q)
@@ -101,9 +103,14 @@ module _ (N : Night) (sound : Promised N) where
   visible-below i k l h = all-below (suc i) i k (omega arith) l h
 
 -- who reads is a step
-pub reads-step : (v : Node) (k : ℕ) → In k (reads v) → v .kind ≡ 0 → ⊥
+pub reads-step : (N : Night) (v : Node) (k : ℕ) → In k (reads N v) → v .kind ≡ 0 → ⊥
 unfolding reads
-reads-step v k h e = in-none k (rw e at h)
+reads-step N v k h e = in-none k (rw e at h)
+
+-- what is in a pair is one of its two attributes
+pub in-both : (q : Pair) (k : ℕ) → In k (bothOf q) → (k ≡ q .left) ⊎ (k ≡ q .right)
+unfolding bothOf
+in-both q k h = ⊎-elim (λ l. inl (in-single 64 k (q .left) .0 l .0)) (λ r. inr (in-single 64 k (q .right) .0 r .0)) (in-union (attribute (q .left)) (attribute (q .right)) k .0 h)
 
 -- it is so of a step's left operand, or of the right one that it has
 abbrev pub OfOperand : Night → ℕ → (ℕ → Type 0) → Type 0
@@ -112,23 +119,25 @@ OfOperand N i Q = Q (nodeOf N i .left) ⊎ ((usesRight (nodeOf N i .kind) ≡ tr
 -- where there is no right operand, it doesn't matter what is visible in it
 pub left-alone : (v : Node) (left right other : ℕ) → usesRight (v .kind) ≡ false → visibleAfter v left right ≡ visibleAfter v left other
 unfolding visibleAfter usesRight anyOf
-left-alone v left right other e = go (eqb (v .kind) 4) (eqb (v .kind) 5) e
+left-alone v left right other e = go (eqb (v .kind) 4) (eqb (v .kind) 5) (eqb (v .kind) 9) e
   where
-    rest : ℕ
-    rest =
+    rest : ℕ → ℕ
+    rest more =
         if eqb (v .kind) 6 then union (v .set) (attribute (v .x)) else
         if eqb (v .kind) 7 then v .set else
         if eqb (v .kind) 8 then union (minus left (v .set)) (attribute (v .x)) else
-        0
+        more
 
     start : ℕ → ℕ
     start more = if eqb (v .kind) 0 then v .set else if eqb (v .kind) 1 then v .set else if eqb (v .kind) 2 then left else if eqb (v .kind) 3 then left else more
 
-    go : (a b : Bool) → (if a then true else if b then true else false) ≡ false
-        → start (if a then union left right else if b then union left right else rest) ≡ start (if a then union left other else if b then union left other else rest)
-    go true b e = absurd (let z : _≡_ {A = ℕ} 0 1 = cc in omega arith)
-    go false true e = absurd (let z : _≡_ {A = ℕ} 0 1 = cc in omega arith)
-    go false false e = refl
+    go : (a b c : Bool) → (if a then true else if b then true else if c then true else false) ≡ false
+        → start (if a then union left right else if b then union left right else rest (if c then union left right else 0))
+        ≡ start (if a then union left other else if b then union left other else rest (if c then union left other else 0))
+    go true b c e = absurd (let z : _≡_ {A = ℕ} 0 1 = cc in omega arith)
+    go false true c e = absurd (let z : _≡_ {A = ℕ} 0 1 = cc in omega arith)
+    go false false true e = absurd (let z : _≡_ {A = ℕ} 0 1 = cc in omega arith)
+    go false false false e = refl
 
 module _ (N : Night) (sound : Promised N) (i : ℕ) (l : i < N .header .nodes) where
   abbrev v : Node
@@ -172,16 +181,17 @@ module _ (N : Night) (sound : Promised N) (i : ℕ) (l : i < N .header .nodes) w
         go (of-x s u q) = inl (rw q (sound .node i l .x-visible s u))
 
     -- and so is what it reads
-    pub reads-operand : (k : ℕ) → In k (reads v) → OfOperand N i (λ c. In k (visible N c))
-    unfolding reads usesSet usesRight usesX anyOf
+    pub reads-operand : (k : ℕ) → In k (reads N v) → OfOperand N i (λ c. In k (visible N c))
+    unfolding reads pairsRead usesSet usesRight usesX usesPairs anyOf
     reads-operand k h =
         ⊎-elim (λ w. only (rw (w .0) refl) (w .1)) (λ h.
         ⊎-elim (λ w. pair (rw (w .0) refl) (λ q. inl (rw q (sound .node i l .y-visible-left (w .0)))) (w .1)) (λ h.
         ⊎-elim (λ w. pair (rw (w .0) refl) (λ q. inr (rw (w .0) refl, rw q (sound .node i l .y-visible-right (w .0)))) (w .1)) (λ h.
         ⊎-elim (λ w. ⊎-elim (set (rw (w .0) refl)) (only (rw (w .0) refl)) (in-union (v .set) (attribute (v .x)) k .0 (w .1))) (λ h.
         ⊎-elim (λ w. set (rw (w .0) refl) (w .1)) (λ h.
-        ⊎-elim (λ w. set (rw (w .0) refl) (w .1)) (λ h. absurd (in-none k h))
-        (pick v 8 _ _ k h)) (pick v 7 _ _ k h)) (pick v 6 _ _ k h)) (pick v 5 _ _ k h)) (pick v 3 _ _ k h)) (pick v 2 _ _ k h)
+        ⊎-elim (λ w. set (rw (w .0) refl) (w .1)) (λ h.
+        ⊎-elim (λ w. paired (rw (w .0) refl) (rw (w .0) refl) (in-unions (λ j. bothOf (itsPair N v j)) (v .count) k .0 (w .1))) (λ h. absurd (in-none k h))
+        (pick v 9 _ _ k h)) (pick v 8 _ _ k h)) (pick v 7 _ _ k h)) (pick v 6 _ _ k h)) (pick v 5 _ _ k h)) (pick v 3 _ _ k h)) (pick v 2 _ _ k h)
       where
         only : usesX (v .kind) ≡ true → In k (attribute (v .x)) → OfOperand N i (λ c. In k (visible N c))
         only u q = inl (rw (in-single 64 k (v .x) .0 q .0) (sound .node i l .x-visible s u))
@@ -191,3 +201,7 @@ module _ (N : Night) (sound : Promised N) (i : ℕ) (l : i < N .header .nodes) w
 
         pair : usesX (v .kind) ≡ true → (k ≡ v .y → OfOperand N i (λ c. In k (visible N c))) → In k (union (attribute (v .x)) (attribute (v .y))) → OfOperand N i (λ c. In k (visible N c))
         pair u f q = ⊎-elim (only u) (λ r. f (in-single 64 k (v .y) .0 r .0)) (in-union (attribute (v .x)) (attribute (v .y)) k .0 q)
+
+        paired : usesPairs (v .kind) ≡ true → usesRight (v .kind) ≡ true → ((j : ℕ) × (j < v .count) × In k (bothOf (itsPair N v j))) → OfOperand N i (λ c. In k (visible N c))
+        paired u r (j, below, q) =
+            ⊎-elim (λ e. inl (rw e (sound .node i l .pair-visible-left u j below))) (λ e. inr (r, rw e (sound .node i l .pair-visible-right u j below))) (in-both (itsPair N v j) k q)

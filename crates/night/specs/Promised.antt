@@ -8,7 +8,7 @@ use mathlib.Core.Logic.{_⊎_}
 use Rattle.sets.specs.Sets.{In, Within, Apart}
 use Rattle.night.specs.Versions.{delivers}
 use Rattle.night.specs.Night.{Night, relationOf, grantOf, nodeOf, stepPrice, linkPrice}
-use Rattle.night.specs.Kinds.{usesLeft, usesRight, usesX, usesSet, reads, readTogether, visible, isChild}
+use Rattle.night.specs.Kinds.{usesLeft, usesRight, usesX, usesSet, usesPairs, itsPair, reads, readTogether, visible, isChild}
 use Rattle.night.specs.Views.{anySubject, viewOf}
 
 -- of each set, all is needed or none
@@ -47,9 +47,8 @@ pub record SoundGrant (N : Night) (i : ℕ) : Type 0 where
   pub sealed-within : Within (grantOf N i .sealed) (relationOf N (grantOf N i .relation) .set)
   pub once : (j : ℕ) → j < i → grantOf N j .relation ≡ grantOf N i .relation → grantOf N j .subject ≡ grantOf N i .subject → ⊥
 
--- node i has a kind, lower and different children that no earlier node has, and what it uses is visible in its operand
+-- node i has lower and different children that no earlier node has, and what it uses is visible in its operand
 pub record SoundNode (N : Night) (i : ℕ) : Type 0 where
-  pub kind-known : nodeOf N i .kind ≤ 8
   pub left-lower : usesLeft (nodeOf N i .kind) ≡ true → nodeOf N i .left < i
   pub right-lower : usesRight (nodeOf N i .kind) ≡ true → nodeOf N i .right < i
   pub children-differ : usesRight (nodeOf N i .kind) ≡ true → nodeOf N i .right ≡ nodeOf N i .left → ⊥
@@ -65,8 +64,10 @@ pub record SoundNode (N : Night) (i : ℕ) : Type 0 where
   pub set-visible : (nodeOf N i .kind ≡ 0 → ⊥) → usesSet (nodeOf N i .kind) ≡ true → Within (nodeOf N i .set) (visible N (nodeOf N i .left))
   pub x-outside : nodeOf N i .kind ≡ 6 → In (nodeOf N i .x) (nodeOf N i .set) → ⊥
   pub x-inside : nodeOf N i .kind ≡ 8 → In (nodeOf N i .x) (nodeOf N i .set)
-  pub needed-read : Within (nodeOf N i .needed) (reads (nodeOf N i))
-  pub needed-together : AllOrNone (nodeOf N i .needed) (readTogether (nodeOf N i))
+  pub pair-visible-left : usesPairs (nodeOf N i .kind) ≡ true → (k : ℕ) → k < nodeOf N i .count → In (itsPair N (nodeOf N i) k .left) (visible N (nodeOf N i .left))
+  pub pair-visible-right : usesPairs (nodeOf N i .kind) ≡ true → (k : ℕ) → k < nodeOf N i .count → In (itsPair N (nodeOf N i) k .right) (visible N (nodeOf N i .right))
+  pub needed-read : Within (nodeOf N i .needed) (reads N (nodeOf N i))
+  pub needed-together : AllOrNone (nodeOf N i .needed) (readTogether N (nodeOf N i))
 
 -- the facts of an accepted file
 pub record Promised (N : Night) : Type 0 where

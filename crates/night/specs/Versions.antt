@@ -7,15 +7,23 @@ use Rattle.laws.specs.Choose.{if_then_else_, anyOf}
 
 -- the versions that are read
 unfoldable pub known : ℕ → Bool
-known version = anyOf (eqb version 1 ∷ eqb version 2 ∷ [])
+known version = anyOf (eqb version 1 ∷ eqb version 2 ∷ eqb version 3 ∷ [])
 
 -- from version 2 on the header names the user, to whom the root's table is delivered
 unfoldable pub delivers : ℕ → Bool
 delivers version = ltb 1 version
 
+-- from version 3 on there is a list of pairs, which the header counts and nodes name
+unfoldable pub hasPairs : ℕ → Bool
+hasPairs version = ltb 2 version
+
+-- and kind 9
+unfoldable pub lastKind : ℕ → ℕ
+lastKind version = if hasPairs version then 9 else 8
+
 -- lengths of the header and of each record
 unfoldable pub headerLength : ℕ → ℕ
-headerLength version = if delivers version then 16 else 15
+headerLength version = if hasPairs version then 17 else if delivers version then 16 else 15
 
 abbrev pub relationLength : ℕ → ℕ
 relationLength version = 9
@@ -23,5 +31,8 @@ relationLength version = 9
 abbrev pub grantLength : ℕ → ℕ
 grantLength version = 18
 
-abbrev pub nodeLength : ℕ → ℕ
-nodeLength version = 28
+unfoldable pub nodeLength : ℕ → ℕ
+nodeLength version = if hasPairs version then 30 else 28
+
+abbrev pub pairLength : ℕ → ℕ
+pairLength version = 2

@@ -2,7 +2,7 @@
 // reading hands out; and what each version of the file has.
 pub mod versions;
 
-// The header's values. In a version without a user, `user` is 0 and nothing looks at it.
+// The header's values. In a version without a user, `user` is 0 and nothing looks at it; so with `pairs` in a version without pairs.
 #[repr(C)]
 pub struct Header {
     pub version: u16,
@@ -13,6 +13,7 @@ pub struct Header {
     pub grants: u16,
     pub steps: u32,
     pub user: u8,
+    pub pairs: u8,
 }
 
 // A relation: its owner and its attributes.
@@ -31,7 +32,7 @@ pub struct Grant {
     pub sealed: u64,
 }
 
-// A node of the query, with its three spare bytes.
+// A node of the query, with its three spare bytes, and which pairs it names: the first one's number, and how many. In a version without pairs both are 0.
 #[repr(C)]
 pub struct Node {
     pub kind: u8,
@@ -45,6 +46,15 @@ pub struct Node {
     pub set: u64,
     pub needed: u64,
     pub size: u32,
+    pub first: u8,
+    pub count: u8,
+}
+
+// A pair of attributes that a join compares: the left operand's, and the right one's.
+#[repr(C)]
+pub struct Pair {
+    pub left: u8,
+    pub right: u8,
 }
 
 // What a subject sees: attributes in clear, and attributes sealed.
@@ -71,6 +81,8 @@ pub const AGGREGATE: u8 = 6;
 pub const COUNT: u8 = 7;
 
 pub const FUNCTION: u8 = 8;
+
+pub const JOIN_ON_PAIRS: u8 = 9;
 
 // The most grants that a file may have.
 pub const MOST_GRANTS: u16 = 272;

@@ -1,7 +1,7 @@
 // What each version of the file has. A version keeps all earlier additions; nothing else compares version numbers.
 ghost use mathlib.Core.Path.{_≡_};
-ghost use Prim.Native.Nat.{_≤_};
-ghost use Rattle.night.specs.Versions.{known, delivers, headerLength};
+ghost use Prim.Native.Nat.{_*_, _<_, _≤_};
+ghost use Rattle.night.specs.Versions.{known, delivers, hasPairs, headerLength, nodeLength, lastKind};
 
 // Whether files of this version are read.
 pub fn known(version: u16) -> bool
@@ -11,6 +11,9 @@ pub fn known(version: u16) -> bool
         return true;
     }
     if version == 2 {
+        return true;
+    }
+    if version == 3 {
         return true;
     }
     false
@@ -26,19 +29,56 @@ pub fn delivers(version: u16) -> bool
     false
 }
 
+// Whether there are pairs to join on.
+pub fn has_pairs(version: u16) -> bool
+    ensures { λ r. ⌜ r ≡ hasPairs version ⌝ }
+{
+    if 2 < version {
+        return true;
+    }
+    false
+}
+
 // The length of the header.
 pub fn header_length(version: u16) -> usize
-    ensures { λ r. ⌜ (r ≡ headerLength version) × (r ≤ 16) ⌝ }
+    ensures { λ r. ⌜ (r ≡ headerLength version) × (r ≤ 17) ⌝ }
 {
+    if has_pairs(version) {
+        return 17;
+    }
     if delivers(version) {
         return 16;
     }
     15
 }
 
-// Lengths of the records.
+// The length of so many nodes.
+pub fn nodes_length(version: u16, n: u8) -> usize
+    ensures { λ r. ⌜ (r ≡ nodeLength version * n) × (r < 8000) ⌝ }
+{
+    let many = n as usize;
+    if has_pairs(version) {
+        return 30 * many;
+    }
+    28 * many
+}
+
+// The last kind of node.
+pub fn last_kind(version: u16) -> u8
+    ensures { λ r. ⌜ r ≡ lastKind version ⌝ }
+{
+    if has_pairs(version) {
+        return 9;
+    }
+    8
+}
+
+// The length of a node in the versions without pairs, as long as those with pairs have the same.
+pub const NODE_START: usize = 28;
+
+// Lengths of the other records.
 pub const RELATION_LENGTH: usize = 9;
 
 pub const GRANT_LENGTH: usize = 18;
 
-pub const NODE_LENGTH: usize = 28;
+pub const PAIR_LENGTH: usize = 2;

@@ -136,7 +136,12 @@ fn attributes_bad(file: &[u8], h: Header, visible: &[u64], i: usize) -> bool
         let relation = values::relation(file, h, v.x as usize);
         return nodes::leaf_bad(v, h, leaf_before(file, h, i, v.x), relation.set);
     }
-    nodes::step_bad(v, entry(visible, v.left), entry(visible, v.right))
+    let left = entry(visible, v.left);
+    let right = entry(visible, v.right);
+    if nodes::step_bad(v, left, right) {
+        return true;
+    }
+    pairs::pairs_bad(file, h, v, left, right)
 }
 
 // 8, 9 and 10: node i.
@@ -147,7 +152,7 @@ pub(crate) fn node_tried(file: &[u8], h: Header, visible: &[u64], i: usize) -> T
     let v = values::node(file, h, i);
     let left = child_taken(file, h, i, v.left as usize);
     let right = child_taken(file, h, i, v.right as usize);
-    let shape = tried(nodes::shape_bad(v, i, left, right), 8, i);
+    let shape = tried(nodes::shape_bad(h, v, i, left, right), 8, i);
     let Tried::Passed = shape else {
         return shape;
     };
@@ -155,7 +160,7 @@ pub(crate) fn node_tried(file: &[u8], h: Header, visible: &[u64], i: usize) -> T
     let Tried::Passed = used else {
         return used;
     };
-    tried(nodes::needed_bad(v), 10, i)
+    tried(pairs::needed_bad(file, h, v), 10, i)
 }
 
 // How many nodes are asked for their parent: all but the last.

@@ -1,2 +1,2 @@
 -- Laws that the rules' proofs share.
-pub mod Needed
+pub mod Together

@@ -1,16 +1,19 @@
--- When a record of the file breaks a rule of document 01, said of its values; what it takes from other records is handed in.
-use Prim.Native.Nat.{ℕ}
+-- When a record of the file breaks a rule of document 01, said of its values; what it takes from other records is handed in, a node's pairs with the night.
+use Prim.Native.Nat.{ℕ, _+_}
 use mathlib.Core.Bool.{Bool, true, false, not}
 use mathlib.Core.List.{[], _∷_, map}
 use lib.Dec.{eqb, ltb}
 use Rattle.laws.specs.Choose.{if_then_else_, anyOf}
+use Rattle.laws.specs.First.{somewhere}
 use Rattle.sets.specs.Sets.{member, within, apart, below}
 use Rattle.night.specs.declared.Header.{Header}
 use Rattle.night.specs.declared.Relation.{Relation}
 use Rattle.night.specs.declared.Grant.{Grant}
 use Rattle.night.specs.declared.Node.{Node}
-use Rattle.night.specs.Versions.{delivers}
-use Rattle.night.specs.Kinds.{aLeaf, aCompare, aJoin, anAggregate, aFunction, usesLeft, usesRight, usesX, usesY, usesSet, reads, readTogether}
+use Rattle.night.specs.declared.Pair.{Pair}
+use Rattle.night.specs.Versions.{delivers, lastKind}
+use Rattle.night.specs.Night.{Night}
+use Rattle.night.specs.Kinds.{aLeaf, aCompare, aJoin, anAggregate, aFunction, usesLeft, usesRight, usesX, usesY, usesSet, usesPairs, itsPair, reads, readTogether}
 use Rattle.night.specs.Views.{anySubject}
 
 -- 4: in a version with a user, its number is no subject's
@@ -69,12 +72,19 @@ unusedBad v =
     ((if usesX (v .kind) then false else not (eqb (v .x) 255)) ∷ (if usesY (v .kind) then false else not (eqb (v .y) 255))
     ∷ (if usesSet (v .kind) then false else not (eqb (v .set) 0)) ∷ [])
 
--- 8: kind, children, unused fields, zero bytes or size
-unfoldable pub shapeBad : Node → ℕ → Bool → Bool → Bool
-shapeBad v i leftTaken rightTaken =
+-- 8: the pairs that kind 9 names are not 1 to 8, or go past the list; another kind's first or count is not 0
+unfoldable pub namesBad : Header → Node → Bool
+namesBad h v =
+    if usesPairs (v .kind)
+    then anyOf (ltb (v .count) 1 ∷ ltb 8 (v .count) ∷ ltb (h .pairs) (v .first + v .count) ∷ [])
+    else anyOf (not (eqb (v .first) 0) ∷ not (eqb (v .count) 0) ∷ [])
+
+-- 8: kind, which the version must have, children, unused fields, pairs named, zero bytes or size
+unfoldable pub shapeBad : Header → Node → ℕ → Bool → Bool → Bool
+shapeBad h v i leftTaken rightTaken =
     anyOf
-    (ltb aFunction (v .kind) ∷ leftBad v i leftTaken ∷ rightBad v i rightTaken ∷ unusedBad v ∷ not (eqb (v .spare1) 0) ∷ not (eqb (v .spare2) 0)
-    ∷ not (eqb (v .spare3) 0) ∷ ltb 1000000 (v .size) ∷ [])
+    (ltb (lastKind (h .version)) (v .kind) ∷ leftBad v i leftTaken ∷ rightBad v i rightTaken ∷ unusedBad v ∷ namesBad h v
+    ∷ not (eqb (v .spare1) 0) ∷ not (eqb (v .spare2) 0) ∷ not (eqb (v .spare3) 0) ∷ ltb 1000000 (v .size) ∷ [])
 
 -- 9: a leaf's relation is not there or an earlier leaf has taken it, or its set is empty or not within the relation
 unfoldable pub leafBad : Node → Header → Bool → ℕ → Bool
@@ -108,13 +118,21 @@ placeBad v =
 unfoldable pub stepBad : Node → ℕ → ℕ → Bool
 stepBad v left right = anyOf (xBad v left ∷ yBad v left right ∷ setBad v left ∷ placeBad v ∷ [])
 
+-- 9: an attribute of a pair is not visible on its side
+unfoldable pub pairBad : Pair → ℕ → ℕ → Bool
+pairBad q left right = anyOf (not (member left (q .left)) ∷ not (member right (q .right)) ∷ [])
+
+-- 9: so of one of the pairs that kind 9 names
+unfoldable pub pairsBad : Night → Node → ℕ → ℕ → Bool
+pairsBad N v left right = if usesPairs (v .kind) then somewhere (λ k. pairBad (itsPair N v k) left right) (v .count) else false
+
 -- 10: some of the set is needed, and not all of it
 unfoldable pub half : ℕ → ℕ → Bool
 half needed together = if apart needed together then false else not (within together needed)
 
 -- 10: needed attributes outside those read, or half of what is read together
-unfoldable pub neededBad : Node → Bool
-neededBad v = if within (v .needed) (reads v) then anyOf (map (half (v .needed)) (readTogether v)) else true
+unfoldable pub neededBad : Night → Node → Bool
+neededBad N v = if within (v .needed) (reads N v) then anyOf (map (half (v .needed)) (readTogether N v)) else true
 
 -- 11: the most that a step price may be: 0 at a leaf
 unfoldable pub mostForStep : ℕ → ℕ

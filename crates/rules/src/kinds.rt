@@ -1,10 +1,11 @@
 // The kinds of node: what each uses, what it reads, what is visible after it.
 use night::Node;
+use night::Pair;
 use sets::attributes;
-ghost use mathlib.Core.List.{[], _∷_};
 ghost use mathlib.Core.Path.{_≡_};
-ghost use Rattle.laws.specs.Choose.{if_then_else_};
-ghost use Rattle.night.specs.Kinds.{usesLeft, usesRight, usesX, usesY, usesSet, reads, readTogether, visibleAfter};
+ghost use lib.ListN.{length};
+ghost use Rattle.night.specs.Night.{Night};
+ghost use Rattle.night.specs.Kinds.{usesLeft, usesRight, usesX, usesY, usesSet, usesPairs, bothOf, readTogether, visibleAfter};
 
 // Whether the kind has a left operand.
 pub fn uses_left(kind: u8) -> bool
@@ -24,6 +25,9 @@ pub fn uses_right(kind: u8) -> bool
         return true;
     }
     if kind == night::JOIN {
+        return true;
+    }
+    if kind == night::JOIN_ON_PAIRS {
         return true;
     }
     false
@@ -89,49 +93,38 @@ pub fn uses_set(kind: u8) -> bool
     false
 }
 
-// What the node reads.
-pub fn reads(v: Node) -> u64
-    ensures { λ r. ⌜ r ≡ reads v ⌝ }
+// Whether the kind uses pairs.
+pub fn uses_pairs(kind: u8) -> bool
+    ensures { λ r. ⌜ r ≡ usesPairs kind ⌝ }
 {
-    let kind = v.kind;
-    let x = attributes::single(v.x);
-    if kind == night::SELECT_VALUE {
-        return x;
-    }
-    let both = attributes::union(x, attributes::single(v.y));
-    if kind == night::SELECT_ATTRIBUTE {
-        return both;
-    }
-    if kind == night::JOIN {
-        return both;
-    }
-    if kind == night::AGGREGATE {
-        return attributes::union(v.set, x);
-    }
-    if kind == night::COUNT {
-        return v.set;
-    }
-    if kind == night::FUNCTION {
-        return v.set;
-    }
-    0
+    kind == night::JOIN_ON_PAIRS
 }
 
-// Whether the node reads all that it reads together: kinds 3, 5 and 8.
-pub fn reads_together(v: Node) -> bool
-    ensures { λ r. ⌜ readTogether v ≡ (if r then reads v ∷ [] else []) ⌝ }
+// Both attributes of a pair.
+pub fn both_of(q: Pair) -> u64
+    ensures { λ r. ⌜ r ≡ bothOf q ⌝ }
+{
+    attributes::union(attributes::single(q.left), attributes::single(q.right))
+}
+
+// How many sets the node reads together: one in kinds 3, 5 and 8, each of its pairs in kind 9.
+pub fn together(v: Node) -> u8
+    ensures { λ r. ⌜ ((N : Night) → r ≡ length (readTogether N v)) ⌝ }
 {
     let k = v.kind;
     if k == night::SELECT_ATTRIBUTE {
-        return true;
+        return 1;
     }
     if k == night::JOIN {
-        return true;
+        return 1;
     }
     if k == night::FUNCTION {
-        return true;
+        return 1;
     }
-    false
+    if k == night::JOIN_ON_PAIRS {
+        return v.count;
+    }
+    0
 }
 
 // What is visible after the node, where `left` and `right` are visible in its operands.
@@ -167,6 +160,9 @@ pub fn visible_after(v: Node, left: u64, right: u64) -> u64
     }
     if kind == night::FUNCTION {
         return attributes::union(attributes::minus(left, v.set), x);
+    }
+    if kind == night::JOIN_ON_PAIRS {
+        return both;
     }
     0
 }

@@ -2,13 +2,16 @@
 use crate::kinds;
 use night::Header;
 use night::Node;
+use night::Pair;
+use night::versions;
 use sets::attributes;
 ghost use mathlib.Core.Path.{_≡_};
+ghost use Prim.Native.Nat.{_+_};
 ghost use mathlib.Core.Bool.{false, not};
 ghost use mathlib.Core.List.{[], _∷_};
 ghost use lib.Dec.{eqb, ltb};
 ghost use Rattle.laws.specs.Choose.{if_then_else_, anyOf};
-ghost use Rattle.rules.specs.Rules.{childBad, leftBad, rightBad, unusedBad, shapeBad, leafBad, xBad, yBad, setBad, placeBad, stepBad, half, neededBad};
+ghost use Rattle.rules.specs.Rules.{childBad, leftBad, rightBad, unusedBad, namesBad, shapeBad, leafBad, xBad, yBad, setBad, placeBad, stepBad, pairBad, half};
 
 // 8: whether c can be no child of node i.
 fn child_bad(i: usize, taken: bool, c: u8) -> bool
@@ -69,12 +72,38 @@ fn filled(used: bool, field: u8) -> bool
     field != 255
 }
 
-// 8: whether node i breaks a rule by its kind, children, unused fields, spare bytes or size, where an earlier node
-// has taken its left child or its right one.
-pub fn shape_bad(v: Node, i: usize, left_taken: bool, right_taken: bool) -> bool
-    ensures { λ r. ⌜ r ≡ shapeBad v i «left_taken» «right_taken» ⌝ }
+// Whether so many from the first on go past a list of this length.
+fn past(long: u8, first: u8, count: u8) -> bool
+    ensures { λ r. ⌜ r ≡ ltb long (first + count) ⌝ }
 {
-    if night::FUNCTION < v.kind {
+    (long as usize) < (first as usize) + (count as usize)
+}
+
+// 8: whether first and count name no pairs that kind 9 may have, or are filled in another kind.
+fn names_bad(h: Header, v: Node) -> bool
+    ensures { λ r. ⌜ r ≡ namesBad h v ⌝ }
+{
+    if kinds::uses_pairs(v.kind) {
+        if v.count < 1 {
+            return true;
+        }
+        if 8 < v.count {
+            return true;
+        }
+        return past(h.pairs, v.first, v.count);
+    }
+    if v.first != 0 {
+        return true;
+    }
+    v.count != 0
+}
+
+// 8: whether node i breaks a rule by its kind, children, unused fields, the pairs that it names, spare bytes or size, where an earlier node
+// has taken its left child or its right one.
+pub fn shape_bad(h: Header, v: Node, i: usize, left_taken: bool, right_taken: bool) -> bool
+    ensures { λ r. ⌜ r ≡ shapeBad h v i «left_taken» «right_taken» ⌝ }
+{
+    if versions::last_kind(h.version) < v.kind {
         return true;
     }
     if left_bad(v, i, left_taken) {
@@ -84,6 +113,9 @@ pub fn shape_bad(v: Node, i: usize, left_taken: bool, right_taken: bool) -> bool
         return true;
     }
     if unused_bad(v) {
+        return true;
+    }
+    if names_bad(h, v) {
         return true;
     }
     rest_bad(v.spare1, v.spare2, v.spare3, v.size)
@@ -189,26 +221,22 @@ pub fn step_bad(v: Node, left: u64, right: u64) -> bool
     place_bad(v)
 }
 
+// 9: whether an attribute of a pair is not visible on its side.
+pub fn pair_bad(q: Pair, left: u64, right: u64) -> bool
+    ensures { λ r. ⌜ r ≡ pairBad q left right ⌝ }
+{
+    if attributes::has(left, q.left) {
+        return !attributes::has(right, q.right);
+    }
+    true
+}
+
 // 10: whether some of what is read together is needed, and not all of it.
-fn half(needed: u64, together: u64) -> bool
+pub fn half(needed: u64, together: u64) -> bool
     ensures { λ r. ⌜ r ≡ half needed together ⌝ }
 {
     if attributes::apart(needed, together) {
         return false;
     }
     !attributes::within(together, needed)
-}
-
-// 10: whether the needed set breaks a rule.
-pub fn needed_bad(v: Node) -> bool
-    ensures { λ r. ⌜ r ≡ neededBad v ⌝ }
-{
-    let read = kinds::reads(v);
-    if attributes::within(v.needed, read) {
-        if kinds::reads_together(v) {
-            return half(v.needed, read);
-        }
-        return false;
-    }
-    true
 }

@@ -8,21 +8,24 @@ use Rattle.laws.specs.Choose.{anyOf}
 use Rattle.laws.specs.First.{first}
 use Rattle.laws.specs.Upwards.{upwards}
 use Rattle.sets.specs.Sets.{bit, member, union, meet, minus, apart, single, unions, lowest}
-use Rattle.night.specs.Night.{grantOf, nodeOf}
+use Rattle.night.specs.Night.{grantOf, nodeOf, pairOf}
 use Rattle.night.specs.Versions.{delivers}
-use Rattle.night.specs.Kinds.{usesLeft, usesRight, reads, readTogether, visibleAfter, visibleStep, visibles}
+use Rattle.night.specs.Kinds.{usesLeft, usesRight, itsPair, bothOf, pairsRead, reads, readTogether, visibleAfter, visibleStep, visibles}
 use Rattle.night.specs.Views.{isFor, grantFor, viewOf, clearOf, sealedOf}
 use Rattle.run.specs.Linked.{one, step}
 use Rattle.run.specs.Keys.{events, everSealed, groupOf, keyName, holdersOf, keyHolders}
 use Rattle.run.specs.Run.{clear, sealed, testedBy, tiedBy, Tested, Tied, spreadOver, spread, spreadTimes, reached, keyOf, holders, leaving, openedBy, together, leafHeld, resultOver, arriving, heldStep, helds, resultOf, leftArrives, rightArrives, leftOpened, rightOpened, arrived, opened, delivered, received, sealedIn, deliveries, allEvents, seals-unclear, opens-unsealed, opens-unheld, needs-unclear, mixes, clear-column, clear-test, sealed-column, sealed-test, tied-apart, left-arrives, right-arrives, left-opened, right-opened, result-made, user-takes, user-opens, user-unheld}
 use Rattle.run.proofs.Forms.{absent-clear, absent-sealed, sealed-clear, same-sealed}
-use Rattle.run.specs.Runs.{seenIn, plan, Runs}
+use Rattle.run.specs.Runs.{seenIn, seenOn, plan, Runs}
 
 no : _≡_ {A = ℕ} 0 1 → ⊥
 no e = omega arith
 
 join-made : _≡_ {A = ℕ} 5 0 → ⊥
 join-made e = omega arith
+
+pairs-made : _≡_ {A = ℕ} 9 0 → ⊥
+pairs-made e = omega arith
 
 clear-sealed : (key : ℕ) → clear ≡ sealed key → ⊥
 clear-sealed key e = sealed-clear (sym e)
@@ -31,7 +34,7 @@ one-key : {k : ℕ} → sealed 0 ≡ sealed k → sealed 64 ≡ sealed k → ⊥
 one-key e f = let z : _≡_ {A = ℕ} 0 64 = same-sealed (e ∙ sym f) in omega arith
 
 pub runs : Runs
-unfolding anyOf first upwards bit member union meet minus apart single unions lowest grantOf nodeOf usesLeft usesRight reads readTogether visibleAfter visibleStep visibles isFor grantFor viewOf clearOf sealedOf events everSealed groupOf keyName holdersOf keyHolders testedBy tiedBy Tested Tied spreadOver spread spreadTimes reached keyOf holders leaving openedBy together leafHeld resultOver arriving heldStep helds resultOf leftArrives rightArrives leftOpened rightOpened arrived opened delivers delivered received sealedIn deliveries allEvents seenIn plan trailingZeros
+unfolding anyOf first upwards bit member union meet minus apart single unions lowest grantOf nodeOf pairOf usesLeft usesRight itsPair bothOf pairsRead reads readTogether visibleAfter visibleStep visibles isFor grantFor viewOf clearOf sealedOf events everSealed groupOf keyName holdersOf keyHolders testedBy tiedBy Tested Tied spreadOver spread spreadTimes reached keyOf holders leaving openedBy together leafHeld resultOver arriving heldStep helds resultOf leftArrives rightArrives leftOpened rightOpened arrived opened delivers delivered received sealedIn deliveries allEvents seenIn seenOn plan trailingZeros
 runs =
     record {
       seals-twice = λ c. c .free 1 (omega arith) (seals-unclear 0 refl sealed-clear);
@@ -90,4 +93,18 @@ runs =
       chain-holders = refl;
       unsealed-holders = refl;
       own-holders = refl;
+      shared-key = refl;
+      shared-key-first = refl;
+      shared-key-last = refl;
+      apart-key-first = refl;
+      apart-key-last = refl;
+      past-key = refl;
+      before-key = refl;
+      pair-mixed = λ c. c .free 2 (omega arith) (mixes 5 (inl refl) (λ all. sealed-clear (all 0 refl)) (λ key all. clear-sealed key (all 2 refl)));
+      last-pair-mixed = λ c. c .free 2 (omega arith) (mixes 10 (inr (inl refl)) (λ all. sealed-clear (all 1 refl)) (λ key all. clear-sealed key (all 3 refl)));
+      pair-mixed-beside = λ c. c .free 2 (omega arith) (mixes 5 (inl refl) (λ all. sealed-clear (all 2 refl)) (λ key all. clear-sealed key (all 0 refl)));
+      needs-pair = λ c. c .free 2 (omega arith) (needs-unclear 1 refl sealed-clear);
+      pair-half-seen = λ c. c .allowed 2 (omega arith) (result-made pairs-made (tied-apart 0 2 0 (one {m = 5} (inl (inl refl)) refl refl) (one {m = 5} (inl (inl refl)) refl refl) no no));
+      last-pair-half-seen = λ c. c .allowed 2 (omega arith) (result-made pairs-made (tied-apart 1 3 1 (one {m = 10} (inl (inr (inl refl))) refl refl) (one {m = 10} (inl (inr (inl refl))) refl refl) no no));
+      shared-half-seen = λ c. c .allowed 2 (omega arith) (result-made pairs-made (tied-apart 0 3 2 (one {m = 9} (inl (inr (inl refl))) refl refl) (one {m = 5} (inl (inl refl)) refl refl) no no));
     }

@@ -20,6 +20,7 @@ use Rattle.run.specs.Linked.{Chain, one, step}
 use Rattle.run.specs.Keys.{Plan, events, everSealed, groupOf, keyName, holdersOf, keyHolders}
 use Rattle.run.specs.Run.{Form, absent, clear, sealed, Held, sealedUnder, unsealed, testedBy, tiedBy, Tested, Tied, spreadOver, spread, spreadTimes, reached, keyOf, holders, leaving, openedBy, together, leafHeld, resultOver, arriving, heldStep, helds, resultOf, leftArrives, rightArrives, leftOpened, rightOpened, arrived, opened, delivered, received, sealedIn, deliveries, allEvents, Stuck, seals-unclear, opens-unsealed, opens-unheld, needs-unclear, mixes, Forbidden, clear-column, clear-test, sealed-column, sealed-test, tied-apart, ForbiddenAt, left-arrives, right-arrives, left-opened, right-opened, result-made, ForbidsUser, DeliveryFails, user-takes, user-opens, user-unheld, Clean}
 use Rattle.run.proofs.Forms.{absent-clear, absent-sealed, sealed-clear, same-sealed}
+use Rattle.run.proofs.Pairs.{pairs-clean, needs-one-pair, pair-past, pair-before}
 use Rattle.run.specs.Runs.{leaf, compare, select, two, handsOn, seenIn, seen, userSees, plan, CleanRuns}
 
 no : _≡_ {A = ℕ} 0 1 → ⊥
@@ -299,4 +300,8 @@ clean-runs =
       leaf-unasked = leaf-unasked;
       seen-sealed = seen-sealed;
       user-sees-sealed = user-sees-sealed;
+      pairs-clean = pairs-clean;
+      needs-one-pair = needs-one-pair;
+      pair-past = pair-past;
+      pair-before = pair-before;
     }

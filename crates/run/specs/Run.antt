@@ -7,12 +7,12 @@ use mathlib.Core.Logic.{_⊎_}
 use lib.Dec.{eqb}
 use lib.ListN.{getD}
 use Rattle.laws.specs.Choose.{if_then_else_, anyOf}
-use Rattle.laws.specs.Upwards.{upwards}
+use Rattle.laws.specs.Upwards.{each, upwards}
 use Rattle.sets.specs.Sets.{In, member, union, apart, unions}
 use Rattle.night.specs.declared.Node.{Node}
 use Rattle.night.specs.Versions.{delivers}
 use Rattle.night.specs.Night.{Night, nodeOf}
-use Rattle.night.specs.Kinds.{aLeaf, aSelect, aCompare, aJoin, anAggregate, aCount, aFunction, usesLeft, usesRight, attribute, reads, readTogether, visible}
+use Rattle.night.specs.Kinds.{aLeaf, aSelect, aCompare, aJoin, anAggregate, aCount, aFunction, aJoinOnPairs, usesLeft, usesRight, attribute, itsPair, bothOf, reads, readTogether, visible}
 use Rattle.night.specs.Views.{clearOf, sealedOf}
 use Rattle.run.specs.Linked.{Chain}
 use Rattle.run.specs.Keys.{Plan, Event, events, keyName, keyHolders}
@@ -38,9 +38,12 @@ pub record Held : Type 0 where
 unfoldable pub testedBy : ℕ → Node → ℕ
 testedBy kind v = if eqb kind aSelect then attribute (v .x) else if anyOf (eqb kind anAggregate ∷ eqb kind aCount ∷ []) then v .set else 0
 
--- kinds 3, 5, 8 tie what they read
-unfoldable pub tiedBy : ℕ → Node → List ℕ
-tiedBy kind v = if anyOf (eqb kind aCompare ∷ eqb kind aJoin ∷ eqb kind aFunction ∷ []) then reads v ∷ [] else []
+-- kinds 3, 5, 8 tie what they read, kind 9 each of its pairs
+unfoldable pub tiedBy : Night → ℕ → Node → List ℕ
+tiedBy N kind v =
+    if anyOf (eqb kind aCompare ∷ eqb kind aJoin ∷ eqb kind aFunction ∷ []) then reads N v ∷ [] else
+    if eqb kind aJoinOnPairs then each (v .count) (λ k. bothOf (itsPair N v k)) else
+    []
 
 -- one of a list
 abbrev pub Some : {A : Type 0} → (A → Type 0) → List A → Type 0
@@ -53,7 +56,7 @@ Tested N past a form = Some (λ d. In a (testedBy (d .kind) (nodeOf N (d .node))
 
 -- the past tied this set
 unfoldable pub Tied : Night → List Past → ℕ → Type 0
-Tied N past m = Some (λ d. Some (λ t. m ≡ t) (tiedBy (d .kind) (nodeOf N (d .node)))) past
+Tied N past m = Some (λ d. Some (λ t. m ≡ t) (tiedBy N (d .kind) (nodeOf N (d .node)))) past
 
 -- the set with each set of the list that meets it, one after the other
 unfoldable pub spreadOver : List ℕ → ℕ → ℕ
@@ -63,7 +66,7 @@ spreadOver (t ∷ ts) s = spreadOver ts (if apart s t then s else union s t)
 -- the same over what the nodes below n tie
 unfoldable pub spread : Night → ℕ → ℕ → ℕ
 spread N zero s = s
-spread N (suc n) s = spreadOver (tiedBy (nodeOf N n .kind) (nodeOf N n)) (spread N n s)
+spread N (suc n) s = spreadOver (tiedBy N (nodeOf N n .kind) (nodeOf N n)) (spread N n s)
 
 -- that many times over
 unfoldable pub spreadTimes : Night → ℕ → ℕ → ℕ
@@ -121,7 +124,7 @@ unfoldable pub resultOver : Night → ℕ → Held → Held
 resultOver N i t =
     record {
       column = λ a. if member (visible N i) a then t .column a else absent;
-      past = t .past ++ (record { node = i; kind = nodeOf N i .kind; read = λ a. if member (reads (nodeOf N i)) a then t .column a else absent } ∷ []);
+      past = t .past ++ (record { node = i; kind = nodeOf N i .kind; read = λ a. if member (reads N (nodeOf N i)) a then t .column a else absent } ∷ []);
     }
 
 -- an operand on arrival at node i: the child's table after its own sealing
@@ -209,8 +212,8 @@ pub data Stuck (N : Night) (p : Plan) (i : ℕ) : Type 0 where
       → (In (p .subject i) (holders N p key) → ⊥) → Stuck N p i
   -- a needed attribute isn't clear
   needs-unclear : (a : ℕ) → In a (nodeOf N i .needed) → (opened N p i .column a ≡ clear → ⊥) → Stuck N p i
-  -- attributes of kinds 3, 5, 8 are neither all clear nor all sealed under one key
-  mixes : (m : ℕ) → Some (λ t. m ≡ t) (readTogether (nodeOf N i)) → (AllAre (opened N p i) m clear → ⊥)
+  -- attributes of kinds 3, 5, 8, or those of a pair of kind 9, are neither all clear nor all sealed under one key
+  mixes : (m : ℕ) → Some (λ t. m ≡ t) (readTogether N (nodeOf N i)) → (AllAre (opened N p i) m clear → ⊥)
       → ((key : ℕ) → AllAre (opened N p i) m (sealed key) → ⊥) → Stuck N p i
 
 -- a table is forbidden to a subject that sees P in clear and E sealed

@@ -5,6 +5,7 @@ use mathlib.Core.List.{List, [], _∷_}
 use lib.ListN.{length, getD}
 use Rattle.sets.specs.Sets.{meet, minus}
 use Rattle.night.specs.declared.Node.{Node}
+use Rattle.night.specs.declared.Pair.{Pair}
 use Rattle.night.specs.Night.{Night}
 use Rattle.run.specs.Keys.{Plan}
 use Rattle.run.specs.Run.{leftArrives, keyOf, holders, delivered, Stuck, Forbidden, ForbiddenAt, ForbidsUser, DeliveryFails, Clean}
@@ -12,7 +13,7 @@ use Rattle.run.specs.Run.{leftArrives, keyOf, holders, delivered, Stuck,
 -- a node by kind, left, right, x, y, set and needed
 abbrev pub node : ℕ → ℕ → ℕ → ℕ → ℕ → ℕ → ℕ → Node
 node kind left right x y set needed =
-    record { kind = kind; left = left; right = right; x = x; y = y; spare1 = 0; spare2 = 0; spare3 = 0; set = set; needed = needed; size = 0 }
+    record { kind = kind; left = left; right = right; x = x; y = y; spare1 = 0; spare2 = 0; spare3 = 0; set = set; needed = needed; size = 0; first = 0; count = 0 }
 
 -- the kinds that the nights here have
 abbrev pub leaf : ℕ → ℕ → Node
@@ -42,11 +43,16 @@ count left set = node 7 left 255 255 255 set 0
 abbrev pub function : ℕ → ℕ → ℕ → Node
 function left set x = node 8 left 255 x 255 set 0
 
+-- a join of nodes 0 and 1 on as many pairs from the first on, by the first one's number, how many, and needed
+abbrev pub joinOn : ℕ → ℕ → ℕ → Node
+joinOn first count needed =
+    record { kind = 9; left = 0; right = 1; x = 255; y = 255; spare1 = 0; spare2 = 0; spare3 = 0; set = 0; needed = needed; size = 0; first = first; count = count }
+
 -- in a version, with a user: subject 0 owns {0, 1} and {2, 3} and sees all in clear; one other subject sees P in clear and E sealed
 unfoldable pub seenIn : ℕ → ℕ → ℕ → ℕ → ℕ → List Node → Night
 seenIn version user other P E nodes =
     record {
-      header = record { version = version; subjects = 2; relations = 2; attributes = 4; nodes = length nodes; grants = 4; steps = 0; user = user };
+      header = record { version = version; subjects = 2; relations = 2; attributes = 4; nodes = length nodes; grants = 4; steps = 0; user = user; pairs = 0 };
       relations = record { owner = 0; set = 3 } ∷ record { owner = 0; set = 12 } ∷ [];
       grants =
           record { relation = 0; subject = 0; clear = 3; sealed = 0 }
@@ -55,6 +61,7 @@ seenIn version user other P E nodes =
           ∷ record { relation = 1; subject = other; clear = minus P 3; sealed = minus E 3 }
           ∷ [];
       nodes = nodes;
+      pairs = [];
       stepPrices = [];
       linkPrices = [];
     }
@@ -70,6 +77,19 @@ seen P E nodes = seenBy 1 P E nodes
 -- and is the user, in version 2
 abbrev pub userSees : ℕ → ℕ → List Node → Night
 userSees P E nodes = seenIn 2 1 1 P E nodes
+
+-- in version 3, with pairs, where the other is subject 1 and the user is subject 0
+unfoldable pub seenOn : ℕ → ℕ → List Pair → List Node → Night
+seenOn P E pairs nodes =
+    record {
+      header = record { version = 3; subjects = 2; relations = 2; attributes = 4; nodes = length nodes; grants = 4; steps = 0; user = 0; pairs = length pairs };
+      relations = seenIn 3 0 1 P E nodes .relations;
+      grants = seenIn 3 0 1 P E nodes .grants;
+      nodes = nodes;
+      pairs = pairs;
+      stepPrices = [];
+      linkPrices = [];
+    }
 
 -- subjects, openings and sealings of the nodes in order
 unfoldable pub plan : List ℕ → List ℕ → List ℕ → Plan
@@ -107,8 +127,19 @@ beyond = 18446744073709551617
 abbrev pub joined : List Node
 joined = leaf 0 1 ∷ leaf 1 4 ∷ join 0 1 0 2 ∷ []
 
--- Sets are numbers: 1 is {0}, 2 is {1}, 3 is {0, 1}, 4 is {2}, 5 is {0, 2}, 6 is {1, 2}, 12 is {2, 3}. Where a run is stuck the other
--- subject sees all in clear, so that nothing is forbidden; where it is forbidden, nothing is stuck.
+-- two pairs that share no attribute, 0 with 2 and 1 with 3; two that share one, 0 with 2 and 0 with 3
+abbrev pub apartPairs : List Pair
+apartPairs = record { left = 0; right = 2 } ∷ record { left = 1; right = 3 } ∷ []
+
+abbrev pub sharedPairs : List Pair
+sharedPairs = record { left = 0; right = 2 } ∷ record { left = 0; right = 3 } ∷ []
+
+-- leaves of {0, 1} and {2, 3}, and such a join
+abbrev pub pairsJoined : ℕ → ℕ → ℕ → List Node
+pairsJoined first count needed = leaf 0 3 ∷ leaf 1 12 ∷ joinOn first count needed ∷ []
+
+-- Sets are numbers: 1 is {0}, 2 is {1}, 3 is {0, 1}, 4 is {2}, 5 is {0, 2}, 6 is {1, 2}, 8 is {3}, 9 is {0, 3}, 10 is {1, 3}, 12 is {2, 3}. Where a run
+-- is stuck the other subject sees all in clear, so that nothing is forbidden; where it is forbidden, nothing is stuck.
 pub record Runs : Type 0 where
   -- stuck: node 1 seals attribute 0, which node 0 sealed
   pub seals-twice : Unclean (seen 3 0 two) (plan (0 ∷ 1 ∷ []) [] (1 ∷ 1 ∷ []))
@@ -195,6 +226,26 @@ pub record Runs : Type 0 where
   pub chain-holders : holders (seen 9 6 chained) (plan (0 ∷ 1 ∷ 0 ∷ 0 ∷ 0 ∷ 1 ∷ []) (0 ∷ 1 ∷ []) (3 ∷ 0 ∷ 12 ∷ [])) 2 ≡ 3
   pub unsealed-holders : holders (seen 9 6 chained) (plan (0 ∷ 1 ∷ 0 ∷ 0 ∷ 0 ∷ 1 ∷ []) (0 ∷ 1 ∷ []) (2 ∷ 0 ∷ 12 ∷ [])) 2 ≡ 1
   pub own-holders : holders (seen 9 6 chained) (plan (0 ∷ 1 ∷ 0 ∷ 0 ∷ 0 ∷ 1 ∷ []) (0 ∷ 1 ∷ []) (3 ∷ 0 ∷ 12 ∷ [])) 3 ≡ 1
+  -- two pairs that share attribute 0 have one key; two that share none have two; an attribute of a pair past those that the node names, or before
+  -- them, has its own
+  pub shared-key : keyOf (seenOn 15 0 sharedPairs (pairsJoined 0 2 0)) (plan [] [] (1 ∷ 12 ∷ [])) 0 ≡ 0
+  pub shared-key-first : keyOf (seenOn 15 0 sharedPairs (pairsJoined 0 2 0)) (plan [] [] (1 ∷ 12 ∷ [])) 2 ≡ 0
+  pub shared-key-last : keyOf (seenOn 15 0 sharedPairs (pairsJoined 0 2 0)) (plan [] [] (1 ∷ 12 ∷ [])) 3 ≡ 0
+  pub apart-key-first : keyOf (seenOn 15 0 apartPairs (pairsJoined 0 2 0)) (plan [] [] (3 ∷ 12 ∷ [])) 2 ≡ 0
+  pub apart-key-last : keyOf (seenOn 15 0 apartPairs (pairsJoined 0 2 0)) (plan [] [] (3 ∷ 12 ∷ [])) 3 ≡ 1
+  pub past-key : keyOf (seenOn 15 0 apartPairs (pairsJoined 0 1 0)) (plan [] [] (3 ∷ 12 ∷ [])) 3 ≡ 3
+  pub before-key : keyOf (seenOn 15 0 apartPairs (pairsJoined 1 1 0)) (plan [] [] (3 ∷ 12 ∷ [])) 2 ≡ 2
+  -- a join on two pairs, stuck: one of the first pair is sealed and the other clear, or of the last, while the other pair is clear, or sealed; it
+  -- needs the last pair, which arrives sealed
+  pub pair-mixed : Unclean (seenOn 15 0 apartPairs (pairsJoined 0 2 0)) (plan (0 ∷ 0 ∷ 1 ∷ []) [] (1 ∷ []))
+  pub last-pair-mixed : Unclean (seenOn 15 0 apartPairs (pairsJoined 0 2 0)) (plan (0 ∷ 0 ∷ 1 ∷ []) [] (2 ∷ []))
+  pub pair-mixed-beside : Unclean (seenOn 15 0 apartPairs (pairsJoined 0 2 0)) (plan (0 ∷ 0 ∷ 1 ∷ []) [] (2 ∷ 12 ∷ []))
+  pub needs-pair : Unclean (seenOn 15 0 apartPairs (pairsJoined 0 2 10)) (plan (0 ∷ 0 ∷ 1 ∷ []) [] (2 ∷ 8 ∷ []))
+  -- forbidden, by the result alone: of the first pair, or of the last, subject 1 sees one in clear and one sealed; of two pairs that share attribute 0,
+  -- which it sees both ways, it sees one in clear and the other sealed, and so all three neither way
+  pub pair-half-seen : Unclean (seenOn 11 4 apartPairs (pairsJoined 0 2 0)) (plan (0 ∷ 0 ∷ 1 ∷ []) [] (1 ∷ 4 ∷ []))
+  pub last-pair-half-seen : Unclean (seenOn 7 8 apartPairs (pairsJoined 0 2 0)) (plan (0 ∷ 0 ∷ 1 ∷ []) [] (2 ∷ 8 ∷ []))
+  pub shared-half-seen : Unclean (seenOn 7 9 sharedPairs (pairsJoined 0 2 0)) (plan (0 ∷ 0 ∷ 1 ∷ []) [] (1 ∷ 12 ∷ []))
 
 -- and what must not be refused
 pub record CleanRuns : Type 0 where
@@ -215,3 +266,9 @@ pub record CleanRuns : Type 0 where
       (leftArrives (seen 2 1 (handsOn (select 0 0 0))) (plan (0 ∷ 0 ∷ 0 ∷ 1 ∷ []) [] (1 ∷ [])) 3) 2 1 → ⊥
   -- the user takes attribute 0 sealed, which it sees so
   pub user-sees-sealed : ForbidsUser (userSees 2 1 two) (delivered (userSees 2 1 two) (plan [] [] (1 ∷ []))) → ⊥
+  -- a join on two pairs, one clear and one sealed, by a subject that sees the one in clear and the other sealed: each is tied on its own
+  pub pairs-clean : Clean (seenOn 5 10 apartPairs (pairsJoined 0 2 0)) (plan (0 ∷ 0 ∷ 1 ∷ []) [] (2 ∷ 8 ∷ []))
+  -- not stuck: it needs one pair, which arrives clear, and the other is sealed; of a pair past those that it names, or before them, one is sealed
+  pub needs-one-pair : Stuck (seenOn 15 0 apartPairs (pairsJoined 0 2 5)) (plan (0 ∷ 0 ∷ 1 ∷ []) [] (2 ∷ 8 ∷ [])) 2 → ⊥
+  pub pair-past : Stuck (seenOn 15 0 apartPairs (pairsJoined 0 1 0)) (plan (0 ∷ 0 ∷ 1 ∷ []) [] (2 ∷ [])) 2 → ⊥
+  pub pair-before : Stuck (seenOn 15 0 apartPairs (pairsJoined 1 1 0)) (plan (0 ∷ 0 ∷ 1 ∷ []) [] (1 ∷ [])) 2 → ⊥

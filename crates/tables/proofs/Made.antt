@@ -4,6 +4,7 @@ use mathlib.Core.Path.{_≡_}
 use mathlib.Core.List.{List}
 use Rattle.sets.specs.Sets.{union, meet, minus}
 use Rattle.night.specs.declared.Node.{Node}
+use Rattle.night.specs.Night.{Night}
 use Rattle.model.specs.declared.Table.{Table}
 use Rattle.model.specs.Ties.{merged}
 use Rattle.model.specs.Tables.{shown, leastView, tests, ties, tieAll, joined, result}
@@ -23,7 +24,7 @@ pub joined-made : {c s d h : ℕ} {k : List ℕ} (t u : Table)
 unfolding joined
 joined-made t u clear sealed tested hidden tied = cc
 
-pub result-made : {x a b c s d h : ℕ} {k : List ℕ} (v : Node) (after : ℕ) (t : Table)
+pub result-made : {x a b c s d h : ℕ} {k : List ℕ} (N : Night) (v : Node) (after : ℕ) (t : Table)
     → x ≡ tests v
     → c ≡ meet (t .clear) after
     → s ≡ meet (t .sealed) after
@@ -31,7 +32,7 @@ pub result-made : {x a b c s d h : ℕ} {k : List ℕ} (v : Node) (after : ℕ) 
     → d ≡ union (t .tested) a
     → b ≡ meet x (t .sealed)
     → h ≡ union (t .hidden) b
-    → k ≡ tieAll (t .tied) (ties v)
-    → _≡_ {A = Table} (record { clear = c; sealed = s; tested = d; hidden = h; tied = k }) (result v after t)
+    → k ≡ tieAll (t .tied) (ties N v)
+    → _≡_ {A = Table} (record { clear = c; sealed = s; tested = d; hidden = h; tied = k }) (result N v after t)
 unfolding result
-result-made v after t tests clear sealed in-clear tested in-sealed hidden tied = cc
+result-made N v after t tests clear sealed in-clear tested in-sealed hidden tied = cc

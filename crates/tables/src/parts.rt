@@ -7,6 +7,7 @@ ghost use Prim.Native.Nat.{ℕ};
 ghost use mathlib.Core.Path.{_≡_};
 ghost use mathlib.Core.List.{List};
 ghost use Rattle.laws.specs.Choose.{if_then_else_};
+ghost use Rattle.night.specs.Night.{Night};
 ghost use Rattle.night.specs.Kinds.{usesRight, visibleAfter};
 ghost use Rattle.model.specs.Ties.{merged};
 ghost use Rattle.model.specs.Tables.{blank, shown, leastView, tests, ties, tieAll, joined, result, leafTable};
@@ -86,7 +87,7 @@ fn tests(v: Node) -> u64
 
 // The step's result over its operands' parts, where `after` is visible after it.
 fn result(v: Node, after: u64, t: Columns) -> Columns
-    ensures { λ r. ⌜ ((tied : List ℕ) → withTied r (tieAll tied (ties v)) ≡ result v after (withTied t tied)) ⌝ }
+    ensures { λ r. ⌜ ((N : Night) (tied : List ℕ) → withTied r (tieAll tied (ties N v)) ≡ result N v after (withTied t tied)) ⌝ }
 {
     let tested = tests(v);
     Columns {
@@ -110,8 +111,8 @@ pub fn taken(v: Node, left: Columns, right: Columns) -> Columns
 
 // The step's table over its operands' tables l and r, of which it has `taken`.
 pub fn made(v: Node, l: Columns, r: Columns, taken: Columns) -> Columns
-    ensures { λ t. ⌜ ((tied other both : List ℕ)
-        → withTied t (tieAll both (ties v)) ≡ result v (visibleAfter v (shown (withTied l tied)) (shown (withTied r other))) (withTied taken both)) ⌝ }
+    ensures { λ t. ⌜ ((N : Night) (tied other both : List ℕ)
+        → withTied t (tieAll both (ties N v)) ≡ result N v (visibleAfter v (shown (withTied l tied)) (shown (withTied r other))) (withTied taken both)) ⌝ }
 {
     result(v, kinds::visible_after(v, shown(l), shown(r)), taken)
 }

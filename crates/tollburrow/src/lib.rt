@@ -207,6 +207,7 @@ pub extern "C" fn tollburrow_write<'h, 'a, 'p, 'r, 'w>(
     relations: &'a [Relation],
     grants: &'a [Grant],
     nodes: &'a [Node],
+    pairs: &'p [u8],
     steps: &'p [u32],
     links: &'p [u32],
     room: &'r mut [u8],
@@ -218,12 +219,13 @@ pub extern "C" fn tollburrow_write<'h, 'a, 'p, 'r, 'w>(
           relations = now (relations .entry);
           grants = now (grants .entry);
           nodes = now (nodes .entry);
+          pairs = now (pairs .entry);
           stepPrices = now (steps .entry);
           linkPrices = now (links .entry);
         })
         (now (room .entry)) (now (room .exit)) (now (written .entry)) (now (written .exit)) code ⌝ }
 {
     let h = *header;
-    let answer = writing::write(h, relations, grants, nodes, steps, links, room);
+    let answer = writing::write(h, relations, grants, nodes, pairs, steps, links, room);
     write_code(answer, written)
 }

@@ -3,27 +3,36 @@ use mathlib.Core.Path.{refl}
 use Rattle.laws.specs.BigEndian.{be}
 use Rattle.laws.specs.Choose.{anyOf}
 use Rattle.laws.specs.First.{first, somewhere}
+use Rattle.laws.specs.InOrder.{inOrder}
 use Rattle.laws.specs.Trials.{verdict, rows}
 use Rattle.laws.specs.Upwards.{upwards}
 use Rattle.sets.specs.Sets.{bit, member, union, meet, minus, within, apart, below, single, unions}
-use Rattle.night.specs.Versions.{known, delivers, headerLength}
-use Rattle.night.specs.Night.{relationOf, grantOf, nodeOf, stepPrice, linkPrice}
-use Rattle.night.specs.Kinds.{usesLeft, usesRight, usesX, usesY, usesSet, reads, readTogether, visibleAfter, visibleStep, visibles, isChild, taken}
+use Rattle.night.specs.Versions.{known, delivers, hasPairs, lastKind, headerLength, nodeLength}
+use Rattle.night.specs.Night.{relationOf, grantOf, nodeOf, pairOf, stepPrice, linkPrice}
+use Rattle.night.specs.Kinds.{usesLeft, usesRight, usesX, usesY, usesSet, usesPairs, itsPair, bothOf, pairsRead, reads, readTogether, visibleAfter, visibleStep, visibles, isChild, taken}
 use Rattle.night.specs.Views.{isFor, grantFor, viewOf}
-use Rattle.rules.specs.Rules.{userBad, countsBad, relationBad, leftOver, subjectThere, grantBad, ownerBad, childBad, leftBad, rightBad, unusedBad, shapeBad, leafBad, xBad, yBad, setBad, placeBad, stepBad, half, neededBad, mostForStep, mostForLink}
-use Rattle.layout.specs.Layout.{grantsFrom, nodesFrom, stepPricesFrom, linkPricesFrom, fileLength, headerOf, relationAt, grantAt, nodeAt, pricesAt, nightIn}
+use Rattle.rules.specs.Rules.{userBad, countsBad, relationBad, leftOver, subjectThere, grantBad, ownerBad, childBad, leftBad, rightBad, unusedBad, namesBad, shapeBad, leafBad, xBad, yBad, setBad, placeBad, stepBad, pairBad, pairsBad, half, neededBad, mostForStep, mostForLink}
+use Rattle.layout.specs.Layout.{grantsFrom, nodesFrom, pairsFrom, pairsIn, stepPricesFrom, linkPricesFrom, fileLength, headerOf, relationAt, grantAt, nodeAt, pairAt, pricesAt, nightIn}
 use Rattle.trials.specs.Trials.{notMarked, notVersioned, headerTrials, takenBefore, pairSeen, isLeafOf, leafBefore, attributesBad, priceIn, mostIn, countIn, trialsOf, section, recordTrials, treeTrials, trials, checkOf}
 use Rattle.trials.specs.Sample.{sample}
 use Rattle.trials.specs.Small.{small}
 use Rattle.trials.specs.Verdicts.{FileVerdicts}
 
 pub file-verdicts : FileVerdicts
-unfolding anyOf be first somewhere verdict rows upwards bit member union meet minus within apart below single unions known delivers headerLength relationOf grantOf nodeOf stepPrice linkPrice usesLeft usesRight usesX usesY usesSet reads readTogether visibleAfter visibleStep visibles isChild taken isFor grantFor viewOf userBad countsBad relationBad leftOver subjectThere grantBad ownerBad childBad leftBad rightBad unusedBad shapeBad leafBad xBad yBad setBad placeBad stepBad half neededBad mostForStep mostForLink grantsFrom nodesFrom stepPricesFrom linkPricesFrom fileLength headerOf relationAt grantAt nodeAt pricesAt nightIn notMarked notVersioned headerTrials takenBefore pairSeen isLeafOf leafBefore attributesBad priceIn mostIn countIn trialsOf section recordTrials treeTrials trials checkOf sample small
+unfolding anyOf be first somewhere inOrder verdict rows upwards bit member union meet minus within apart below single unions known delivers hasPairs lastKind headerLength nodeLength relationOf grantOf nodeOf pairOf stepPrice linkPrice usesLeft usesRight usesX usesY usesSet usesPairs itsPair bothOf pairsRead reads readTogether visibleAfter visibleStep visibles isChild taken isFor grantFor viewOf userBad countsBad relationBad leftOver subjectThere grantBad ownerBad childBad leftBad rightBad unusedBad namesBad shapeBad leafBad xBad yBad setBad placeBad stepBad pairBad pairsBad half neededBad mostForStep mostForLink grantsFrom nodesFrom pairsFrom pairsIn stepPricesFrom linkPricesFrom fileLength headerOf relationAt grantAt nodeAt pairAt pricesAt nightIn notMarked notVersioned headerTrials takenBefore pairSeen isLeafOf leafBefore attributesBad priceIn mostIn countIn trialsOf section recordTrials treeTrials trials checkOf sample small
 file-verdicts =
     record {
       accepted = refl;
       sample-accepted = refl;
       user-accepted = refl;
+      paired-accepted = refl;
+      paired-one = refl;
+      paired-both = refl;
+      pairs-shared = refl;
+      pairs-twice = refl;
+      pairs-eight = refl;
+      pairs-none = refl;
+      pairs-unread = refl;
       user-unread = refl;
       mark-short = refl;
       mark-first = refl;
@@ -40,6 +49,8 @@ file-verdicts =
       header-before-counts = refl;
       user-short = refl;
       user-before-counts = refl;
+      pairs-short = refl;
+      pairs-before-counts = refl;
       subjects-none = refl;
       relations-many = refl;
       attributes-many = refl;
@@ -52,6 +63,9 @@ file-verdicts =
       length-less = refl;
       length-more = refl;
       user-length-less = refl;
+      paired-length-less = refl;
+      pairs-fewer = refl;
+      pairs-more = refl;
       length-before-relations = refl;
       owner-missing = refl;
       relation-empty = refl;
@@ -83,12 +97,38 @@ file-verdicts =
       spare-filled = refl;
       spare-second = refl;
       size-high = refl;
+      kind-early = refl;
+      kind-last = refl;
+      names-none = refl;
+      names-many = refl;
+      names-past = refl;
+      names-beyond = refl;
+      pairs-with-x = refl;
+      pairs-with-y = refl;
+      pairs-with-set = refl;
+      pairs-one-child = refl;
+      first-unused = refl;
+      count-unused = refl;
       leaf-relation = refl;
       leaf-taken = refl;
       leaf-outside = refl;
       attribute-hidden = refl;
+      pair-turned = refl;
+      pair-left-hidden = refl;
+      pair-right-hidden = refl;
+      pair-last-hidden = refl;
+      pair-no-attribute = refl;
+      pair-left-beyond = refl;
+      pair-right-beyond = refl;
+      names-before-pairs = refl;
       needed-unread = refl;
       needed-half = refl;
+      needed-unnamed = refl;
+      needed-half-left = refl;
+      needed-half-right = refl;
+      needed-half-second = refl;
+      needed-half-shared = refl;
+      pairs-before-needed = refl;
       shape-before-attributes = refl;
       attributes-before-needed = refl;
       attributes-before-next = refl;

@@ -9,7 +9,7 @@ use Rattle.laws.specs.Trials.{answers, refuses, verdict}
 use Rattle.laws.proofs.Cases.{none-of}
 use Rattle.laws.proofs.Trials.{passed, passed-then, refused-then, refused-alike, accepted-alike}
 use Rattle.night.specs.declared.Header.{Header}
-use Rattle.layout.specs.Layout.{grantsFrom, nodesFrom, stepPricesFrom, linkPricesFrom, fileLength, headerOf, nightIn}
+use Rattle.layout.specs.Layout.{grantsFrom, nodesFrom, pairsFrom, stepPricesFrom, linkPricesFrom, fileLength, headerOf, nightIn}
 use Rattle.rules.specs.Rules.{countsBad}
 use Rattle.trials.specs.Trials.{headerTrials, recordTrials, treeTrials, trials, checkOf}
 
@@ -52,5 +52,5 @@ unfolding nodesFrom
 grants-first h = omega arith
 
 pub nodes-within : (h : Header) → nodesFrom h ≤ fileLength h
-unfolding stepPricesFrom linkPricesFrom fileLength
+unfolding pairsFrom stepPricesFrom linkPricesFrom fileLength
 nodes-within h = omega arith

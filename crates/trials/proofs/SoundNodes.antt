@@ -14,12 +14,14 @@ use Rattle.laws.proofs.First.{somewhere-false, somewhere-true}
 use Rattle.laws.proofs.Trials.{passes-row}
 use Rattle.sets.specs.Sets.{In, Within, Apart, within, apart}
 use Rattle.sets.proofs.Members.{within-exactly, apart-exactly, member-in, not-member}
+use Rattle.night.specs.declared.Header.{Header}
 use Rattle.night.specs.declared.Node.{Node}
+use Rattle.night.specs.declared.Pair.{Pair}
 use Rattle.night.specs.Night.{Night, relationOf, nodeOf}
-use Rattle.night.specs.Kinds.{usesLeft, usesRight, usesX, usesSet, reads, readTogether, visible, isChild, taken}
+use Rattle.night.specs.Kinds.{usesLeft, usesRight, usesX, usesSet, usesPairs, itsPair, reads, readTogether, visible, isChild, taken}
 use Rattle.night.specs.Promised.{SoundNode, AllOrNone}
 use Rattle.night.proofs.Children.{is-child}
-use Rattle.rules.specs.Rules.{childBad, leftBad, rightBad, shapeBad, leafBad, xBad, yBad, setBad, placeBad, stepBad, half, neededBad}
+use Rattle.rules.specs.Rules.{childBad, leftBad, rightBad, shapeBad, leafBad, xBad, yBad, setBad, placeBad, stepBad, pairBad, pairsBad, half, neededBad}
 use Rattle.trials.specs.Trials.{isLeafOf, leafBefore, attributesBad, countIn, trialsOf, section}
 use Rattle.trials.specs.declared.Section.the-variants.{Nodes, Parents}
 
@@ -43,16 +45,16 @@ whole : (needed : ℕ) (ts : List ℕ) → NoneOf (map (half needed) ts) → All
 whole needed [] q = tt
 whole needed (t ∷ ts) q = (half-fine needed t (q .0), whole needed ts (q .1))
 
-needed-fine : (v : Node) → neededBad v ≡ false → Within (v .needed) (reads v) × AllOrNone (v .needed) (readTogether v)
+needed-fine : (N : Night) (v : Node) → neededBad N v ≡ false → Within (v .needed) (reads N v) × AllOrNone (v .needed) (readTogether N v)
 unfolding neededBad
-needed-fine v e = go (within (v .needed) (reads v)) refl e
+needed-fine N v e = go (within (v .needed) (reads N v)) refl e
   where
-    go : (b : Bool) → within (v .needed) (reads v) ≡ b → (if b then anyOf (map (half (v .needed)) (readTogether v)) else true) ≡ false
-        → Within (v .needed) (reads v) × AllOrNone (v .needed) (readTogether v)
-    go true q e = (within-exactly (v .needed) (reads v) .0 q, whole (v .needed) (readTogether v) (none-of (map (half (v .needed)) (readTogether v)) e))
+    go : (b : Bool) → within (v .needed) (reads N v) ≡ b → (if b then anyOf (map (half (v .needed)) (readTogether N v)) else true) ≡ false
+        → Within (v .needed) (reads N v) × AllOrNone (v .needed) (readTogether N v)
+    go true q e = (within-exactly (v .needed) (reads N v) .0 q, whole (v .needed) (readTogether N v) (none-of (map (half (v .needed)) (readTogether N v)) e))
     go false q e = absurd (let z : _≡_ {A = ℕ} 0 1 = cc in omega arith)
 
-module _ (v : Node) (i : ℕ) (a b : Bool) (e : shapeBad v i a b ≡ false) where
+module _ (h : Header) (v : Node) (i : ℕ) (a b : Bool) (e : shapeBad h v i a b ≡ false) where
   left-fine : usesLeft (v .kind) ≡ true → childBad i a (v .left) ≡ false
   unfolding shapeBad leftBad
   left-fine u = rw u at (none-of _ e .1 .0)
@@ -61,13 +63,9 @@ module _ (v : Node) (i : ℕ) (a b : Bool) (e : shapeBad v i a b ≡ false) wher
   unfolding shapeBad rightBad
   right-fine u = none-of _ (rw u at (none-of _ e .1 .1 .0))
 
-  kind-fine : v .kind ≤ 8
-  unfolding shapeBad
-  kind-fine = ltb-false 8 (v .kind) (none-of _ e .0)
-
   size-fine : v .size ≤ 1000000
   unfolding shapeBad
-  size-fine = ltb-false 1000000 (v .size) (none-of _ e .1 .1 .1 .1 .1 .1 .1 .0)
+  size-fine = ltb-false 1000000 (v .size) (none-of _ e .1 .1 .1 .1 .1 .1 .1 .1 .0)
 
 module _ (v : Node) (left right : ℕ) (e : stepBad v left right ≡ false) where
   x-fine : usesX (v .kind) ≡ true → In (v .x) left
@@ -94,6 +92,13 @@ module _ (v : Node) (left right : ℕ) (e : stepBad v left right ≡ false) wher
   unfolding stepBad placeBad
   inside-fine k = member-in (v .set) (v .x) (not-false _ (rw (ne-eqb (v .kind) 6 (λ z. omega arith), eq-eqb (v .kind) 8 k) at (none-of _ e .1 .1 .1 .0)))
 
+-- a pair that is not bad is visible on its sides
+pair-fine : (q : Pair) (left right : ℕ) → pairBad q left right ≡ false → In (q .left) left × In (q .right) right
+unfolding pairBad
+pair-fine q left right e =
+    let f = none-of _ e in
+    (member-in left (q .left) (not-false _ (f .0)), member-in right (q .right) (not-false _ (f .1 .0)))
+
 -- a leaf's trial, and a step's
 leaf-fine : (N : Night) (i : ℕ) → attributesBad N i ≡ false → nodeOf N i .kind ≡ 0
     → NoneOf
@@ -103,9 +108,22 @@ unfolding attributesBad leafBad
 leaf-fine N i e k = none-of _ (rw (eq-eqb (nodeOf N i .kind) 0 k) at e)
 
 step-fine : (N : Night) (i : ℕ) → attributesBad N i ≡ false → (nodeOf N i .kind ≡ 0 → ⊥)
-    → stepBad (nodeOf N i) (visible N (nodeOf N i .left)) (visible N (nodeOf N i .right)) ≡ false
+    → (stepBad (nodeOf N i) (visible N (nodeOf N i .left)) (visible N (nodeOf N i .right)) ≡ false)
+    × (pairsBad N (nodeOf N i) (visible N (nodeOf N i .left)) (visible N (nodeOf N i .right)) ≡ false)
 unfolding attributesBad
-step-fine N i e k = rw (ne-eqb (nodeOf N i .kind) 0 k) at e
+step-fine N i e k =
+    let f = none-of _ (rw (ne-eqb (nodeOf N i .kind) 0 k) at e) in
+    (f .0, f .1 .0)
+
+-- the pairs that a step names
+pairs-fine : (N : Night) (i : ℕ) → attributesBad N i ≡ false → usesPairs (nodeOf N i .kind) ≡ true → (k : ℕ) → k < nodeOf N i .count
+    → In (itsPair N (nodeOf N i) k .left) (visible N (nodeOf N i .left)) × In (itsPair N (nodeOf N i) k .right) (visible N (nodeOf N i .right))
+unfolding pairsBad usesPairs
+pairs-fine N i e u k l =
+    let v = nodeOf N i in
+    let kind = eqb-true (v .kind) 9 u in
+    let all = rw u at (step-fine N i e (λ z. omega (arith, kind)) .1) in
+    pair-fine (itsPair N v k) _ _ (somewhere-false (λ k. pairBad (itsPair N v k) (visible N (v .left)) (visible N (v .right))) (v .count) all k l)
 
 -- no earlier leaf has the relation
 leaf-alone : (N : Night) (i j r : ℕ) → leafBefore N i r ≡ false → j < i → nodeOf N j .kind ≡ 0 → nodeOf N j .x ≡ r → ⊥
@@ -115,11 +133,11 @@ leaf-alone N i j r e l k q =
     eqb-false (nodeOf N j .x) r (rw (eq-eqb (nodeOf N j .kind) 0 k) at h) q
 
 -- no earlier node has a child of node i
-child-alone : (N : Night) (i : ℕ) → shapeBad (nodeOf N i) i (taken N i (nodeOf N i .left)) (taken N i (nodeOf N i .right)) ≡ false
+child-alone : (N : Night) (i : ℕ) → shapeBad (N .header) (nodeOf N i) i (taken N i (nodeOf N i .left)) (taken N i (nodeOf N i .right)) ≡ false
     → (j c : ℕ) → j < i → isChild (nodeOf N j) c ≡ true → isChild (nodeOf N i) c ≡ true → ⊥
 child-alone N i e j c l before here =
-    ⊎-elim (λ w. clash (nodeOf N i .left) (w .1) (child-fine N i (nodeOf N i .left) (left-fine _ _ _ _ e (w .0)) .1 j l))
-    (λ w. clash (nodeOf N i .right) (w .1) (child-fine N i (nodeOf N i .right) (right-fine _ _ _ _ e (w .0) .1 .0) .1 j l))
+    ⊎-elim (λ w. clash (nodeOf N i .left) (w .1) (child-fine N i (nodeOf N i .left) (left-fine _ _ _ _ _ e (w .0)) .1 j l))
+    (λ w. clash (nodeOf N i .right) (w .1) (child-fine N i (nodeOf N i .right) (right-fine _ _ _ _ _ e (w .0) .1 .0) .1 j l))
     (is-child (nodeOf N i) c here)
   where
     clash : (k : ℕ) → k ≡ c → isChild (nodeOf N j) k ≡ false → ⊥
@@ -136,7 +154,7 @@ set-not-empty N i e u k = go (eqb (nodeOf N i .kind) 0) refl
     go true q = eqb-false (nodeOf N i .set) 0 (leaf-fine N i e (eqb-true (nodeOf N i .kind) 0 q) .1 .1 .0)
     go false q =
         eqb-false (nodeOf N i .set) 0
-        (rw (ne-eqb (nodeOf N i .kind) 6 k) at (set-fine _ _ _ (step-fine N i e (eqb-false (nodeOf N i .kind) 0 q)) u .1 .0))
+        (rw (ne-eqb (nodeOf N i .kind) 6 k) at (set-fine _ _ _ (step-fine N i e (eqb-false (nodeOf N i .kind) 0 q) .0) u .1 .0))
 
 pub node-sound : (N : Night) → Passes (section N Nodes) → (i : ℕ) → i < N .header .nodes → SoundNode N i
 unfolding section countIn trialsOf
@@ -145,25 +163,26 @@ node-sound N p i l =
     let t = passes-row (trialsOf N Nodes) (N .header .nodes) i l p in
     let e = t .0 in
     let q = t .1 .0 in
-    let w = needed-fine v (t .1 .1 .0) in
+    let w = needed-fine N v (t .1 .1 .0) in
     let left = visible N (v .left) in
     record {
-      kind-known = kind-fine _ _ _ _ e;
-      left-lower = λ u. child-fine N i (v .left) (left-fine _ _ _ _ e u) .0;
-      right-lower = λ u. child-fine N i (v .right) (right-fine _ _ _ _ e u .1 .0) .0;
-      children-differ = λ u. eqb-false (v .right) (v .left) (right-fine _ _ _ _ e u .0);
+      left-lower = λ u. child-fine N i (v .left) (left-fine _ _ _ _ _ e u) .0;
+      right-lower = λ u. child-fine N i (v .right) (right-fine _ _ _ _ _ e u .1 .0) .0;
+      children-differ = λ u. eqb-false (v .right) (v .left) (right-fine _ _ _ _ _ e u .0);
       children-once = child-alone N i e;
-      size-most = size-fine _ _ _ _ e;
+      size-most = size-fine _ _ _ _ _ e;
       leaf-relation = λ k. ltb-true (v .x) (N .header .relations) (not-false _ (leaf-fine N i q k .0));
       leaf-within = λ k. within-exactly (v .set) (relationOf N (v .x) .set) .0 (not-false _ (leaf-fine N i q k .1 .1 .1 .0));
       leaf-once = λ j m k g same. leaf-alone N i j (v .x) (leaf-fine N i q k .1 .0) m g same;
       set-some = set-not-empty N i q;
-      x-visible = λ k u. x-fine _ _ _ (step-fine N i q k) u;
-      y-visible-left = λ k. y-left _ _ _ (step-fine N i q (λ z. omega arith)) k;
-      y-visible-right = λ k. y-right _ _ _ (step-fine N i q (λ z. omega arith)) k;
-      set-visible = λ k u. within-exactly (v .set) left .0 (not-false _ (set-fine _ _ _ (step-fine N i q k) u .0));
-      x-outside = λ k. outside-fine _ _ _ (step-fine N i q (λ z. omega arith)) k;
-      x-inside = λ k. inside-fine _ _ _ (step-fine N i q (λ z. omega arith)) k;
+      x-visible = λ k u. x-fine _ _ _ (step-fine N i q k .0) u;
+      y-visible-left = λ k. y-left _ _ _ (step-fine N i q (λ z. omega arith) .0) k;
+      y-visible-right = λ k. y-right _ _ _ (step-fine N i q (λ z. omega arith) .0) k;
+      set-visible = λ k u. within-exactly (v .set) left .0 (not-false _ (set-fine _ _ _ (step-fine N i q k .0) u .0));
+      x-outside = λ k. outside-fine _ _ _ (step-fine N i q (λ z. omega arith) .0) k;
+      x-inside = λ k. inside-fine _ _ _ (step-fine N i q (λ z. omega arith) .0) k;
+      pair-visible-left = λ u k l. pairs-fine N i q u k l .0;
+      pair-visible-right = λ u k l. pairs-fine N i q u k l .1;
       needed-read = w .0;
       needed-together = w .1;
     }

@@ -63,3 +63,30 @@ twoParentless =
     ++ aGrant 0 0 1 0 ++ aGrant 1 0 2 0 ++ aGrant 2 0 4 0
     ++ aNode 0 255 255 0 255 1 0 ++ aNode 0 255 255 1 255 2 0 ++ aNode 0 255 255 2 255 4 0 ++ aNode 1 2 255 255 255 4 0
     ++ replicate 20 0)
+
+-- of a node in a version with pairs: the first pair that it names, and how many
+abbrev pub naming : ℕ → ℕ → List ℕ → List ℕ
+naming first count node = node ++ (first ∷ count ∷ [])
+
+-- a file of version 3 with so many pairs: two relations of two attributes, a leaf of each, and this node over them; user 0; the pairs' bytes
+abbrev pub pairing : ℕ → List ℕ → List ℕ → List ℕ
+pairing many node pairs =
+    65 ∷ 88 ∷ 80 ∷ 0 ∷ 3 ∷ 2 ∷ 2 ∷ 4 ∷ 3 ∷ 0 ∷ 4 ∷ 0 ∷ 0 ∷ 0 ∷ 2 ∷ 0 ∷ many
+    ∷ (aRelation 0 3 ++ aRelation 1 12
+    ++ aGrant 0 0 3 0 ++ aGrant 1 1 12 0 ++ aGrant 0 255 0 3 ++ aGrant 1 255 0 12
+    ++ naming 0 0 (aNode 0 255 255 0 255 3 0) ++ naming 0 0 (aNode 0 255 255 1 255 12 0) ++ node
+    ++ pairs
+    ++ twoPrices 0 0 ++ twoPrices 0 0 ++ twoPrices 1 1
+    ++ twoPrices 0 1 ++ twoPrices 1 0)
+
+-- a join on so many pairs from the first on, with this needed set
+abbrev pub joining : ℕ → ℕ → ℕ → List ℕ
+joining first count needed = naming first count (aNode 9 0 1 255 255 0 needed)
+
+-- three pairs, of which the first is none that a node could name
+abbrev pub threePairs : List ℕ
+threePairs = 200 ∷ 64 ∷ 0 ∷ 2 ∷ 1 ∷ 3 ∷ []
+
+-- a join on the second and the third, which needs this in clear
+abbrev pub paired : ℕ → List ℕ
+paired needed = pairing 3 (joining 1 2 needed) threePairs

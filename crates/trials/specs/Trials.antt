@@ -16,7 +16,7 @@ use Rattle.night.specs.Night.{Night, relationOf, grantOf, nodeOf, stepPrice, li
 use Rattle.night.specs.Kinds.{visible, taken}
 use Rattle.night.specs.Views.{isFor, viewOf}
 use Rattle.night.specs.Promised.{Promised}
-use Rattle.rules.specs.Rules.{countsBad, relationBad, leftOver, grantBad, ownerBad, shapeBad, leafBad, stepBad, neededBad, mostForStep, mostForLink}
+use Rattle.rules.specs.Rules.{countsBad, relationBad, leftOver, grantBad, ownerBad, shapeBad, leafBad, stepBad, pairsBad, neededBad, mostForStep, mostForLink}
 use Rattle.layout.specs.Layout.{fileLength, headerOf, nightOf}
 use Rattle.trials.specs.declared.Section.{Section}
 use Rattle.trials.specs.declared.Section.the-variants.{Relations, Grants, Owners, Nodes, Parents, Prices}
@@ -60,7 +60,10 @@ unfoldable pub attributesBad : Night → ℕ → Bool
 attributesBad N i =
     if eqb (nodeOf N i .kind) 0
     then leafBad (nodeOf N i) (N .header) (leafBefore N i (nodeOf N i .x)) (relationOf N (nodeOf N i .x) .set)
-    else stepBad (nodeOf N i) (visible N (nodeOf N i .left)) (visible N (nodeOf N i .right))
+    else anyOf
+    (stepBad (nodeOf N i) (visible N (nodeOf N i .left)) (visible N (nodeOf N i .right))
+    ∷ pairsBad N (nodeOf N i) (visible N (nodeOf N i .left)) (visible N (nodeOf N i .right))
+    ∷ [])
 
 -- the prices in row i, counted with the rows of step prices first and those of link prices after them
 unfoldable pub priceIn : Night → ℕ → ℕ → ℕ
@@ -88,9 +91,9 @@ trialsOf N Grants i =
     ∷ []
 trialsOf N Owners i = trial (ownerBad (relationOf N i) (viewOf N (relationOf N i .owner) i .clear)) 7 i ∷ []
 trialsOf N Nodes i =
-    trial (shapeBad (nodeOf N i) i (taken N i (nodeOf N i .left)) (taken N i (nodeOf N i .right))) 8 i
+    trial (shapeBad (N .header) (nodeOf N i) i (taken N i (nodeOf N i .left)) (taken N i (nodeOf N i .right))) 8 i
     ∷ trial (attributesBad N i) 9 i
-    ∷ trial (neededBad (nodeOf N i)) 10 i
+    ∷ trial (neededBad N (nodeOf N i)) 10 i
     ∷ []
 trialsOf N Parents i = trial (not (taken N (N .header .nodes) i)) 8 i ∷ []
 trialsOf N Prices i = rows (N .header .subjects) (λ p. trial (ltb (mostIn N i p) (priceIn N i p)) 11 (i * N .header .subjects + p) ∷ [])

@@ -1,46 +1,70 @@
 -- What `check` says of the small file and of its neighbours: each number with its place, and, where two conditions hold, the earlier one.
-use Prim.Native.Nat.{ℕ}
+use Prim.Native.Nat.{ℕ, _+_}
 use mathlib.Core.Path.{_≡_}
 use mathlib.Core.List.{List, [], _∷_, _++_}
-use lib.ListN.{take, set}
+use lib.ListN.{take, set, replicate}
+use Rattle.laws.specs.InOrder.{inOrder}
 use Rattle.laws.specs.Trials.{answers, refuses}
 use Rattle.layout.specs.Layout.{headerOf}
 use Rattle.trials.specs.Trials.{checkOf}
 use Rattle.trials.specs.Sample.{sample}
-use Rattle.trials.specs.Small.{small, withUser, relationByte, grantByte, nodeByte, priceByte, parentless, twoParentless}
+use Rattle.trials.specs.Small.{small, withUser, relationByte, grantByte, nodeByte, priceByte, parentless, twoParentless, aNode, naming, pairing, joining, threePairs, paired}
 
 -- the file is refused with this number and place
 abbrev pub Refused : List ℕ → ℕ → ℕ → Type 0
 Refused s number place = checkOf s ≡ refuses number place
 
+-- the file is accepted
+abbrev pub Accepted : List ℕ → Type 0
+Accepted s = checkOf s ≡ answers (headerOf s)
+
+-- the bytes of the pair 0, 2 so many times
+abbrev pub pairsOf : ℕ → List ℕ
+pairsOf n = inOrder (λ (k : ℕ). 0 ∷ 2 ∷ []) (replicate n 0)
+
 -- 1 to 11
 pub record FileVerdicts : Type 0 where
   -- accepted: the small file, and the sample night
-  pub accepted : checkOf small ≡ answers (record { version = 1; subjects = 2; relations = 2; attributes = 2; nodes = 4; grants = 4; steps = 6; user = 0 })
+  pub accepted : checkOf small ≡ answers (record { version = 1; subjects = 2; relations = 2; attributes = 2; nodes = 4; grants = 4; steps = 6; user = 0; pairs = 0 })
   pub sample-accepted :
-      checkOf sample ≡ answers (record { version = 1; subjects = 6; relations = 2; attributes = 6; nodes = 6; grants = 14; steps = 76; user = 0 })
+      checkOf sample ≡ answers (record { version = 1; subjects = 6; relations = 2; attributes = 6; nodes = 6; grants = 14; steps = 76; user = 0; pairs = 0 })
   -- in version 2, the small file with a user; in version 1 none is read, whatever stands behind the steps allowed
   pub user-accepted :
-      checkOf (withUser 1 small) ≡ answers (record { version = 2; subjects = 2; relations = 2; attributes = 2; nodes = 4; grants = 4; steps = 6; user = 1 })
+      checkOf (withUser 1 small) ≡ answers (record { version = 2; subjects = 2; relations = 2; attributes = 2; nodes = 4; grants = 4; steps = 6; user = 1; pairs = 0 })
+  -- in version 3, a join on two pairs that needs neither, one or both of them; a pair that no node names means nothing
+  pub paired-accepted :
+      checkOf (paired 0) ≡ answers (record { version = 3; subjects = 2; relations = 2; attributes = 4; nodes = 3; grants = 4; steps = 2; user = 0; pairs = 3 })
+  pub paired-one : checkOf (paired 5) ≡ checkOf (paired 0)
+  pub paired-both : checkOf (paired 15) ≡ checkOf (paired 0)
+  -- pairs that share an attribute, a pair twice, eight pairs; no pairs at all
+  pub pairs-shared : checkOf (pairing 3 (joining 1 2 13) (0 ∷ 0 ∷ 0 ∷ 2 ∷ 0 ∷ 3 ∷ [])) ≡ checkOf (paired 0)
+  pub pairs-twice : checkOf (pairing 3 (joining 1 2 5) (0 ∷ 0 ∷ 0 ∷ 2 ∷ 0 ∷ 2 ∷ [])) ≡ checkOf (paired 0)
+  pub pairs-eight : Accepted (pairing 9 (joining 1 8 0) (0 ∷ 0 ∷ pairsOf 8))
+  pub pairs-none : Accepted (pairing 0 (naming 0 0 (aNode 4 0 1 255 255 0 0)) [])
+  -- in version 2 no pairs are read, whatever stands behind the user
+  pub pairs-unread : headerOf (set (withUser 1 small) 16 9) .pairs ≡ 0
   pub user-unread : headerOf (set small (relationByte 0 0) 9) .user ≡ 0
   -- 1: fewer than 3 bytes, or not the mark; before 2
   pub mark-short : Refused (take 2 small) 1 0
   pub mark-first : Refused (set small 0 66) 1 0
   pub mark-second : Refused (set small 1 89) 1 0
   pub mark-third : Refused (set small 2 81) 1 0
-  pub mark-before-version : Refused (set (set small 2 81) 4 3) 1 0
-  -- 2: fewer than 5 bytes, or version neither 1 nor 2; before 3
+  pub mark-before-version : Refused (set (set small 2 81) 4 4) 1 0
+  -- 2: fewer than 5 bytes, or version other than 1, 2 and 3; before 3
   pub version-short : Refused (take 4 small) 2 0
   pub version-none : Refused (set small 4 0) 2 0
-  pub version-other : Refused (set small 4 3) 2 0
+  pub version-other : Refused (set small 4 4) 2 0
   pub version-high : Refused (set small 3 1) 2 0
   pub version-high-user : Refused (set (withUser 0 small) 3 1) 2 0
-  pub version-before-header : Refused (take 14 (set small 4 3)) 2 0
+  pub version-before-header : Refused (take 14 (set small 4 4)) 2 0
   -- 3: fewer than 15 bytes, in version 2 than 16; before 4
   pub header-short : Refused (take 14 small) 3 0
   pub header-before-counts : Refused (take 14 (set small 5 0)) 3 0
   pub user-short : Refused (take 15 (withUser 0 small)) 3 0
   pub user-before-counts : Refused (take 15 (set (withUser 0 small) 5 0)) 3 0
+  -- in version 3 than 17
+  pub pairs-short : Refused (take 16 (paired 0)) 3 0
+  pub pairs-before-counts : Refused (take 16 (set (paired 0) 5 0)) 3 0
   -- 4: a count outside its limits, or a user not below s; before 3 for the length
   pub subjects-none : Refused (set small 5 0) 4 0
   pub relations-many : Refused (set small 6 17) 4 0
@@ -55,6 +79,9 @@ pub record FileVerdicts : Type 0 where
   pub length-less : Refused (take 264 small) 3 0
   pub length-more : Refused (small ++ (0 ∷ [])) 3 0
   pub user-length-less : Refused (take 265 (withUser 0 small)) 3 0
+  pub paired-length-less : Refused (take 242 (paired 0)) 3 0
+  pub pairs-fewer : Refused (set (paired 0) 16 4) 3 0
+  pub pairs-more : Refused (set (paired 0) 16 2) 3 0
   pub length-before-relations : Refused (take 264 (set small (relationByte 0 0) 2)) 3 0
   -- 5: a relation's owner, its set empty, with an attribute not below a, or with one already taken; the relation's number, the lowest first
   pub owner-missing : Refused (set small (relationByte 1 0) 2) 5 1
@@ -92,14 +119,44 @@ pub record FileVerdicts : Type 0 where
   pub spare-filled : Refused (set small (nodeByte 3 7) 1) 8 3
   pub spare-second : Refused (set small (nodeByte 3 6) 1) 8 3
   pub size-high : Refused (set small (nodeByte 1 24) 1) 8 1
+  -- kind 9 before version 3, kind 10 in it
+  pub kind-early : Refused (set (withUser 0 small) (1 + nodeByte 2 0) 9) 8 2
+  pub kind-last : Refused (pairing 0 (naming 0 0 (aNode 10 0 1 255 255 0 0)) []) 8 2
+  -- pairs named: none, more than 8, past the list, though the first is in it; x, y and set, which kind 9 doesn't use; a first or a count in another kind
+  pub names-none : Refused (pairing 3 (joining 1 0 0) threePairs) 8 2
+  pub names-many : Refused (pairing 10 (joining 1 9 0) (0 ∷ 0 ∷ pairsOf 9)) 8 2
+  pub names-past : Refused (pairing 3 (joining 2 2 0) threePairs) 8 2
+  pub names-beyond : Refused (pairing 3 (joining 255 2 0) threePairs) 8 2
+  pub pairs-with-x : Refused (pairing 3 (naming 1 2 (aNode 9 0 1 0 255 0 0)) threePairs) 8 2
+  pub pairs-with-y : Refused (pairing 3 (naming 1 2 (aNode 9 0 1 255 2 0 0)) threePairs) 8 2
+  pub pairs-with-set : Refused (pairing 3 (naming 1 2 (aNode 9 0 1 255 255 1 0)) threePairs) 8 2
+  pub pairs-one-child : Refused (pairing 3 (naming 1 2 (aNode 9 0 255 255 255 0 0)) threePairs) 8 2
+  pub first-unused : Refused (pairing 3 (naming 1 0 (aNode 4 0 1 255 255 0 0)) threePairs) 8 2
+  pub count-unused : Refused (pairing 3 (naming 0 1 (aNode 4 0 1 255 255 0 0)) threePairs) 8 2
   -- 9: attributes or relation of a node; a relation that an earlier leaf has taken; the node
   pub leaf-relation : Refused (set small (nodeByte 1 3) 2) 9 1
   pub leaf-taken : Refused (set (set small (nodeByte 1 3) 0) (nodeByte 1 15) 1) 9 1
   pub leaf-outside : Refused (set small (nodeByte 0 15) 2) 9 0
   pub attribute-hidden : Refused (set small (nodeByte 3 3) 2) 9 3
+  -- an attribute of a pair that is not visible on its side: in each place, of the last pair alone, not below a, past 64 bits
+  pub pair-turned : Refused (pairing 1 (joining 0 1 0) (2 ∷ 0 ∷ [])) 9 2
+  pub pair-left-hidden : Refused (pairing 1 (joining 0 1 0) (2 ∷ 2 ∷ [])) 9 2
+  pub pair-right-hidden : Refused (pairing 1 (joining 0 1 0) (0 ∷ 0 ∷ [])) 9 2
+  pub pair-last-hidden : Refused (pairing 2 (joining 0 2 0) (0 ∷ 2 ∷ 1 ∷ 1 ∷ [])) 9 2
+  pub pair-no-attribute : Refused (pairing 1 (joining 0 1 0) (0 ∷ 4 ∷ [])) 9 2
+  pub pair-left-beyond : Refused (pairing 1 (joining 0 1 0) (64 ∷ 2 ∷ [])) 9 2
+  pub pair-right-beyond : Refused (pairing 1 (joining 0 1 0) (0 ∷ 255 ∷ [])) 9 2
+  pub names-before-pairs : Refused (pairing 1 (joining 0 2 0) (2 ∷ 0 ∷ [])) 8 2
   -- 10: a needed set outside what is read; half of what is read together; the node
   pub needed-unread : Refused (set small (nodeByte 2 23) 1) 10 2
   pub needed-half : Refused (set (set small (nodeByte 3 0) 3) (nodeByte 3 4) 1) 10 3
+  -- of kind 9: an attribute of a pair that it doesn't name; half a pair, of one and of two; half of one pair, whole of another that shares an attribute
+  pub needed-unnamed : Refused (pairing 2 (joining 0 1 10) (0 ∷ 2 ∷ 1 ∷ 3 ∷ [])) 10 2
+  pub needed-half-left : Refused (pairing 1 (joining 0 1 1) (0 ∷ 2 ∷ [])) 10 2
+  pub needed-half-right : Refused (pairing 1 (joining 0 1 4) (0 ∷ 2 ∷ [])) 10 2
+  pub needed-half-second : Refused (paired 7) 10 2
+  pub needed-half-shared : Refused (pairing 2 (joining 0 2 5) (0 ∷ 2 ∷ 0 ∷ 3 ∷ [])) 10 2
+  pub pairs-before-needed : Refused (pairing 1 (joining 0 1 1) (2 ∷ 0 ∷ [])) 9 2
   -- a node's 8, 9, 10 in turn, and all three before the next node's
   pub shape-before-attributes : Refused (set (set small (nodeByte 0 5) 1) (nodeByte 0 15) 2) 8 0
   pub attributes-before-needed : Refused (set (set small (nodeByte 0 15) 2) (nodeByte 0 23) 1) 9 0

@@ -7,7 +7,7 @@ use native.Mathlib.Nat.{mul-le-mul, mul-suc}
 use native.Mathlib.Omega.{arith}
 use lib.Dec.{ltb, eqb, lit<}
 use lib.ListN.{length, length-drop, getD, take, drop, take-append-drop}
-use lib.Seq.{drop-drop, take-all}
+use lib.Seq.{length-take-le, drop-drop, take-all, getD-take, getD-drop}
 use borrow.Author.Tests.{le-ltb, eqb-true, not-false}
 use Rattle.laws.specs.BigEndian.{be, bytes}
 use Rattle.laws.specs.Choose.{if_then_else_, anyOf}
@@ -18,14 +18,14 @@ use Rattle.laws.proofs.BigEndian.{be-fits, bytes-be}
 use Rattle.laws.proofs.Cases.{none-of, eq-fine}
 use Rattle.laws.proofs.InOrder.{in-order-part}
 use Rattle.laws.proofs.Trials.{passed, passes-append, passes-accepts, passed-then, refused-then}
-use Rattle.laws.proofs.Upwards.{each-length, each-holds}
+use Rattle.laws.proofs.Upwards.{each-length, each-same, each-self, each-holds}
 use Rattle.night.specs.declared.Header.{Header}
-use Rattle.night.specs.Versions.{delivers, headerLength}
+use Rattle.night.specs.Versions.{delivers, headerLength, nodeLength}
 use Rattle.night.specs.Night.{noRelation, noGrant, noNode}
-use Rattle.layout.specs.Layout.{grantsFrom, nodesFrom, stepPricesFrom, linkPricesFrom, fileLength, headerOf, asRead, headerBytes, relationAt, relationBytes, grantAt, grantBytes, nodeAt, nodeBytes, nightIn, nightOf}
+use Rattle.layout.specs.Layout.{grantsFrom, nodesFrom, pairsFrom, pairsIn, stepPricesFrom, linkPricesFrom, fileLength, headerOf, asRead, headerBytes, relationAt, relationBytes, grantAt, grantBytes, nodeAt, nodeBytes, nightIn, nightOf}
 use Rattle.layout.proofs.Written.{header-again, relation-again, grant-again, node-again}
 use Rattle.trials.specs.Trials.{notMarked, headerTrials, recordTrials, treeTrials, trials, checkOf}
-use Rattle.writes.specs.Values.{Values, pricesFrom, fileBytes, valuesOf}
+use Rattle.writes.specs.Values.{Values, bytesFrom, pricesFrom, fileBytes, valuesOf}
 use Rattle.writes.specs.Writing.{miscounted, miscountedBy, writeTrials, writeOf, judgedBy, rewriteOf}
 use Rattle.writes.specs.Back.{HeaderFits, RelationFits, GrantFits, NodeFits, ValuesFit, Bytes, SameAgain, HeadedAgain, RewrittenAlike, WrittenAgain, AcceptedAgain}
 use Rattle.writes.proofs.Judged.{judged-alike}
@@ -38,7 +38,8 @@ as-counted s =
     rw (
       eq-fine (length (each (h .relations) (λ i. relationAt s (headerLength (h .version) + 9 * i)))) (h .relations) (each-length _ (h .relations)),
       eq-fine (length (each (h .grants) (λ i. grantAt s (grantsFrom h + 18 * i)))) (h .grants) (each-length _ (h .grants)),
-      eq-fine (length (each (h .nodes) (λ i. nodeAt s (nodesFrom h + 28 * i)))) (h .nodes) (each-length _ (h .nodes)),
+      eq-fine (length (each (h .nodes) (λ i. nodeAt (h .version) s (nodesFrom h + nodeLength (h .version) * i)))) (h .nodes) (each-length _ (h .nodes)),
+      eq-fine (length (bytesFrom s (pairsFrom h) (2 * pairsIn h))) (2 * pairsIn h) (each-length _ (2 * pairsIn h)),
       eq-fine (length (pricesFrom s (stepPricesFrom h) (h .nodes * h .subjects))) (h .nodes * h .subjects) (each-length _ (h .nodes * h .subjects)),
       eq-fine (length (pricesFrom s (linkPricesFrom h) (h .subjects * h .subjects))) (h .subjects * h .subjects) (each-length _ (h .subjects * h .subjects)),
     ) refl
@@ -57,9 +58,9 @@ module _ (s : List ℕ) (all : Bytes s) where
   unfolding grantAt
   grant-fits at = (be-fits s all (at + 2) 8, be-fits s all (at + 10) 8)
 
-  node-fits : (at : ℕ) → NodeFits (nodeAt s at)
+  node-fits : (version at : ℕ) → NodeFits (nodeAt version s at)
   unfolding nodeAt
-  node-fits at = (be-fits s all (at + 8) 8, be-fits s all (at + 16) 8, be-fits s all (at + 24) 4)
+  node-fits version at = (be-fits s all (at + 8) 8, be-fits s all (at + 16) 8, be-fits s all (at + 24) 4)
 
   pub values-fit : ValuesFit (valuesOf s)
   unfolding valuesOf nightIn
@@ -69,7 +70,7 @@ module _ (s : List ℕ) (all : Bytes s) where
         header = header-fits;
         relation = each-holds RelationFits _ noRelation (h .relations) (lit< tt) (λ k l. relation-fits (headerLength (h .version) + 9 * k));
         grant = each-holds GrantFits _ noGrant (h .grants) (lit< tt, lit< tt) (λ k l. grant-fits (grantsFrom h + 18 * k));
-        node = each-holds NodeFits _ noNode (h .nodes) (lit< tt, lit< tt, lit< tt) (λ k l. node-fits (nodesFrom h + 28 * k));
+        node = each-holds NodeFits _ noNode (h .nodes) (lit< tt, lit< tt, lit< tt) (λ k l. node-fits (h .version) (nodesFrom h + nodeLength (h .version) * k));
         step-price = each-holds (λ v. v < 2 ^ 32) _ 0 (h .nodes * h .subjects) (lit< tt) (λ k l. be-fits s all (stepPricesFrom h + 4 * k) 4);
         link-price = each-holds (λ v. v < 2 ^ 32) _ 0 (h .subjects * h .subjects) (lit< tt) (λ k l. be-fits s all (linkPricesFrom h + 4 * k) 4);
       }
@@ -78,19 +79,27 @@ module _ (s : List ℕ) (all : Bytes s) where
 joins : (s : List ℕ) {xs : List ℕ} (at n : ℕ) → xs ≡ take n (drop at s) → xs ++ drop (at + n) s ≡ drop at s
 joins s at n e = rw (e, ← drop-drop n at s) (take-append-drop n (drop at s))
 
--- an entry's place is within its section
+-- an entry of n that are w long each ends within them
+pub entry-ends : (w n i : ℕ) → i < n → w * i + w ≤ w * n
+entry-ends w n i l = omega (arith, mul-le-mul {n₁ = w} {m₁ = suc i} {n₂ = w} {m₂ = n} (omega arith) l, mul-suc w i)
+
+-- so its place is within its section
 entry-within : (w n i at : ℕ) (s : List ℕ) → i < n → at + w * n ≤ length s → at + w * i + w ≤ length s
-entry-within w n i at s l q = omega (arith, mul-le-mul {n₁ = w} {m₁ = suc i} {n₂ = w} {m₂ = n} (omega arith) l, mul-suc w i)
+entry-within w n i at s l q = omega (arith, entry-ends w n i l)
 
 -- the sections of a file of bytes that is as long as its counts say, and begins with a mark
 module _ (s : List ℕ) (all : Bytes s) (long : length s ≡ fileLength (headerOf s)) where
   abbrev head : Header
   head = headerOf s
 
-  ends : (headerLength (head .version) + 9 * head .relations ≡ grantsFrom head) × (grantsFrom head + 18 * head .grants ≡ nodesFrom head) × (nodesFrom head + 28 * head .nodes ≡ stepPricesFrom head)
-      × (stepPricesFrom head + 4 * (head .nodes * head .subjects) ≡ linkPricesFrom head) × (linkPricesFrom head + 4 * (head .subjects * head .subjects) ≡ fileLength head)
-  unfolding grantsFrom nodesFrom stepPricesFrom linkPricesFrom fileLength
-  ends = (refl, refl, refl, refl, refl)
+  abbrev wide : ℕ
+  wide = nodeLength (head .version)
+
+  ends : (headerLength (head .version) + 9 * head .relations ≡ grantsFrom head) × (grantsFrom head + 18 * head .grants ≡ nodesFrom head) × (nodesFrom head + wide * head .nodes ≡ pairsFrom head)
+      × (pairsFrom head + 2 * pairsIn head ≡ stepPricesFrom head) × (stepPricesFrom head + 4 * (head .nodes * head .subjects) ≡ linkPricesFrom head)
+      × (linkPricesFrom head + 4 * (head .subjects * head .subjects) ≡ fileLength head)
+  unfolding grantsFrom nodesFrom pairsFrom stepPricesFrom linkPricesFrom fileLength
+  ends = (refl, refl, refl, refl, refl, refl)
 
   relations-again : inOrder relationBytes (each (head .relations) (λ i. relationAt s (headerLength (head .version) + 9 * i))) ≡ take (9 * head .relations) (drop (headerLength (head .version)) s)
   relations-again =
@@ -102,10 +111,16 @@ module _ (s : List ℕ) (all : Bytes s) (long : length s ≡ fileLength (headerO
       in-order-part grantBytes 18 _ s (grantsFrom head) (head .grants)
       (λ i l. grant-again s all (grantsFrom head + 18 * i) (entry-within 18 (head .grants) i (grantsFrom head) s l (omega (arith, ends, long))))
 
-  nodes-again : inOrder nodeBytes (each (head .nodes) (λ i. nodeAt s (nodesFrom head + 28 * i))) ≡ take (28 * head .nodes) (drop (nodesFrom head) s)
+  nodes-again : inOrder (nodeBytes (head .version)) (each (head .nodes) (λ i. nodeAt (head .version) s (nodesFrom head + wide * i))) ≡ take (wide * head .nodes) (drop (nodesFrom head) s)
   nodes-again =
-      in-order-part nodeBytes 28 _ s (nodesFrom head) (head .nodes)
-      (λ i l. node-again s all (nodesFrom head + 28 * i) (entry-within 28 (head .nodes) i (nodesFrom head) s l (omega (arith, ends, long))))
+      in-order-part (nodeBytes (head .version)) wide _ s (nodesFrom head) (head .nodes)
+      (λ i l. node-again s all (nodesFrom head + wide * i) (head .version) (entry-within wide (head .nodes) i (nodesFrom head) s l (omega (arith, ends, long))))
+
+  -- bytes as they stand
+  stretch-again : (at n : ℕ) → at + n ≤ length s → bytesFrom s at n ≡ take n (drop at s)
+  stretch-again at n q =
+      let many : length (take n (drop at s)) ≡ n = length-take-le n (drop at s) (rw (length-drop at s) (omega arith)) in
+      each-same (λ k. getD s (at + k) 0) (λ k. getD (take n (drop at s)) k 0) n (λ k l. sym (getD-take n (drop at s) k 0 l ∙ getD-drop at s k 0)) ∙ rw many at (each-self (take n (drop at s)) 0)
 
   prices-again : (at n : ℕ) → at + 4 * n ≤ length s → inOrder (bytes 4) (pricesFrom s at n) ≡ take (4 * n) (drop at s)
   prices-again at n q = in-order-part (bytes 4) 4 _ s at n (λ i l. bytes-be s all (at + 4 * i) 4 (entry-within 4 n i at s l q))
@@ -120,10 +135,12 @@ module _ (s : List ℕ) (all : Bytes s) (long : length s ≡ fileLength (headerO
       let last = prices-again (linkPricesFrom head) links (omega (arith, ends, long)) ∙ take-all (4 * links) (drop (linkPricesFrom head) s) past in
       rw (
         last,
-        ← ends .3,
+        ← ends .4,
         joins s (stepPricesFrom head) (4 * steps) (prices-again (stepPricesFrom head) steps (omega (arith, ends, long))),
+        ← ends .3,
+        joins s (pairsFrom head) (2 * pairsIn head) (stretch-again (pairsFrom head) (2 * pairsIn head) (omega (arith, ends, long))),
         ← ends .2,
-        joins s (nodesFrom head) (28 * head .nodes) nodes-again,
+        joins s (nodesFrom head) (wide * head .nodes) nodes-again,
         ← ends .1,
         joins s (grantsFrom head) (18 * head .grants) grants-again,
         ← ends .0,

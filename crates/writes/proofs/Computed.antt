@@ -7,12 +7,12 @@ use Rattle.laws.specs.InOrder.{inOrder}
 use Rattle.laws.specs.Trials.{verdict, rows}
 use Rattle.laws.specs.Upwards.{upwards}
 use Rattle.sets.specs.Sets.{bit, member, union, meet, minus, within, apart, below, single, unions}
-use Rattle.night.specs.Versions.{known, delivers, headerLength}
-use Rattle.night.specs.Night.{relationOf, grantOf, nodeOf, stepPrice, linkPrice}
-use Rattle.night.specs.Kinds.{usesLeft, usesRight, usesX, usesY, usesSet, reads, readTogether, visibleAfter, visibleStep, visibles, isChild, taken}
+use Rattle.night.specs.Versions.{known, delivers, hasPairs, lastKind, headerLength, nodeLength}
+use Rattle.night.specs.Night.{relationOf, grantOf, nodeOf, pairOf, stepPrice, linkPrice}
+use Rattle.night.specs.Kinds.{usesLeft, usesRight, usesX, usesY, usesSet, usesPairs, itsPair, bothOf, pairsRead, reads, readTogether, visibleAfter, visibleStep, visibles, isChild, taken}
 use Rattle.night.specs.Views.{isFor, grantFor, viewOf}
-use Rattle.rules.specs.Rules.{userBad, countsBad, relationBad, leftOver, subjectThere, grantBad, ownerBad, childBad, leftBad, rightBad, unusedBad, shapeBad, leafBad, xBad, yBad, setBad, placeBad, stepBad, half, neededBad, mostForStep, mostForLink}
-use Rattle.layout.specs.Layout.{grantsFrom, nodesFrom, stepPricesFrom, linkPricesFrom, fileLength, headerOf, headerBytes, asRead, relationAt, relationBytes, grantAt, grantBytes, nodeAt, nodeBytes, pricesAt, nightIn}
+use Rattle.rules.specs.Rules.{userBad, countsBad, relationBad, leftOver, subjectThere, grantBad, ownerBad, childBad, leftBad, rightBad, unusedBad, namesBad, shapeBad, leafBad, xBad, yBad, setBad, placeBad, stepBad, pairBad, pairsBad, half, neededBad, mostForStep, mostForLink}
+use Rattle.layout.specs.Layout.{grantsFrom, nodesFrom, pairsFrom, pairsIn, stepPricesFrom, linkPricesFrom, fileLength, headerOf, relationAt, grantAt, nodeAt, pairAt, pricesAt, nightIn, headerBytes, asRead, relationBytes, grantBytes, nodeBytes, nodeAsRead}
 use Rattle.trials.specs.Trials.{notMarked, notVersioned, headerTrials, takenBefore, pairSeen, isLeafOf, leafBefore, attributesBad, priceIn, mostIn, countIn, trialsOf, section, recordTrials, treeTrials}
 use Rattle.trials.specs.Small.{small}
 use Rattle.writes.specs.Values.{rowsOf, nightFrom, fileBytes, valuesOf}
@@ -21,41 +21,61 @@ use Rattle.writes.specs.Small.{smallValues}
 use Rattle.writes.specs.Verdicts.{WriteVerdicts}
 
 pub write-verdicts : WriteVerdicts
-unfolding be bytes anyOf first somewhere inOrder verdict rows upwards bit member union meet minus within apart below single unions known delivers headerLength relationOf grantOf nodeOf stepPrice linkPrice usesLeft usesRight usesX usesY usesSet reads readTogether visibleAfter visibleStep visibles isChild taken isFor grantFor viewOf userBad countsBad relationBad leftOver subjectThere grantBad ownerBad childBad leftBad rightBad unusedBad shapeBad leafBad xBad yBad setBad placeBad stepBad half neededBad mostForStep mostForLink grantsFrom nodesFrom stepPricesFrom linkPricesFrom fileLength headerOf headerBytes asRead relationAt relationBytes grantAt grantBytes nodeAt nodeBytes pricesAt nightIn notMarked notVersioned headerTrials takenBefore pairSeen isLeafOf leafBefore attributesBad priceIn mostIn countIn trialsOf section recordTrials treeTrials small rowsOf nightFrom fileBytes valuesOf miscounted miscountedBy countTrials roomTrials writeTrials writeOf rewriteOf smallValues
+unfolding be bytes anyOf first somewhere inOrder verdict rows upwards bit member union meet minus within apart below single unions known delivers headerLength relationOf grantOf nodeOf stepPrice linkPrice usesLeft usesRight usesX usesY usesSet reads readTogether visibleAfter visibleStep visibles isChild taken isFor grantFor viewOf userBad countsBad relationBad leftOver subjectThere grantBad ownerBad childBad leftBad rightBad unusedBad shapeBad leafBad xBad yBad setBad placeBad stepBad half neededBad mostForStep mostForLink grantsFrom nodesFrom stepPricesFrom linkPricesFrom fileLength headerOf headerBytes asRead relationAt relationBytes grantAt grantBytes nodeAt nodeBytes pricesAt nightIn notMarked notVersioned headerTrials takenBefore pairSeen isLeafOf leafBefore attributesBad priceIn mostIn countIn trialsOf section recordTrials treeTrials small rowsOf nightFrom fileBytes valuesOf miscounted miscountedBy countTrials roomTrials writeTrials writeOf rewriteOf smallValues hasPairs lastKind nodeLength pairOf usesPairs itsPair bothOf pairsRead namesBad pairBad pairsBad pairsFrom pairsIn pairAt nodeAsRead
 write-verdicts =
     record {
       values-stand = refl;
       values-user = refl;
       values-prices = refl;
+      values-pairs = refl;
       values-own = refl;
       night-same = refl;
       night-steps = refl;
       night-links = refl;
       night-steps-own = refl;
       night-links-own = refl;
+      night-paired = refl;
+      night-pairs = refl;
       rows-and-columns = refl;
       read-one = refl;
       read-two = refl;
+      read-three = refl;
+      read-node-two = refl;
+      read-node-three = refl;
       night-user = refl;
+      night-counted = refl;
+      night-named = refl;
       two-bytes = refl;
       two-low = refl;
       four-bytes = refl;
       header-bytes = refl;
       header-bytes-one = refl;
       header-bytes-two = refl;
+      header-bytes-three = refl;
       relation-bytes = refl;
       relation-low = refl;
       grant-bytes = refl;
       node-bytes = refl;
+      node-bytes-three = refl;
       file-bytes = refl;
       file-prices = refl;
       file-own = refl;
       file-user = refl;
       file-unused = refl;
+      file-pairs = refl;
+      file-counted = refl;
+      file-named = refl;
       written = refl;
       written-more = refl;
       written-user = refl;
       written-unused = refl;
+      written-pairs = refl;
+      written-needed = refl;
+      written-no-pairs = refl;
+      written-counted = refl;
+      written-named = refl;
+      counted-back = refl;
+      named-back = refl;
       version-none = refl;
       version-other = refl;
       version-high = refl;
@@ -77,10 +97,18 @@ write-verdicts =
       steps-more = refl;
       links-fewer = refl;
       links-more = refl;
+      pairs-fewer = refl;
+      pairs-more = refl;
+      pairs-half = refl;
+      pairs-none = refl;
+      pairs-early = refl;
+      pairs-early-counted = refl;
       prices-moved = refl;
       relations-for-grant = refl;
+      pairs-for-price = refl;
       lists-own = refl;
       lists-before-relations = refl;
+      pairs-before-nodes = refl;
       lists-before-prices = refl;
       owner-missing = refl;
       left-over = refl;
@@ -91,8 +119,17 @@ write-verdicts =
       kind-unknown = refl;
       spare-filled = refl;
       parent-none = refl;
+      kind-early = refl;
+      names-none = refl;
+      names-many = refl;
+      names-past = refl;
+      first-unused = refl;
+      count-unused = refl;
       leaf-relation = refl;
+      pair-left-hidden = refl;
+      pair-right-hidden = refl;
       needed-unread = refl;
+      needed-half = refl;
       leaf-price = refl;
       step-price = refl;
       link-price = refl;
@@ -100,24 +137,30 @@ write-verdicts =
       room-short = refl;
       room-none = refl;
       room-user-short = refl;
+      room-pairs-short = refl;
+      room-no-pairs-short = refl;
       version-before-room = refl;
       counts-before-room = refl;
       lists-before-room = refl;
       relations-before-room = refl;
       owners-before-room = refl;
+      needed-before-room = refl;
       prices-before-room = refl;
       room-after = refl;
       room-after-just = refl;
       room-after-user = refl;
+      room-after-pairs = refl;
       room-kept = refl;
       room-kept-version = refl;
       room-kept-price = refl;
       again = refl;
       again-more = refl;
       again-user = refl;
+      again-pairs = refl;
       again-mark = refl;
       again-version = refl;
       again-header = refl;
+      again-header-pairs = refl;
       again-counts = refl;
       again-fewer = refl;
       again-more-bytes = refl;
@@ -127,4 +170,6 @@ write-verdicts =
       again-grant = refl;
       again-grant-before-room = refl;
       again-room = refl;
+      again-half = refl;
+      again-pairs-room = refl;
     }

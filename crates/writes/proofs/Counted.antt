@@ -10,7 +10,8 @@ use Rattle.laws.specs.BigEndian.{bytes}
 use Rattle.laws.proofs.BigEndian.{bytes-length}
 use Rattle.laws.proofs.Cases.{none-of}
 use Rattle.laws.proofs.InOrder.{in-order-length}
-use Rattle.layout.specs.Layout.{grantsFrom, nodesFrom, stepPricesFrom, linkPricesFrom, fileLength, relationBytes, grantBytes, nodeBytes}
+use Rattle.night.specs.Versions.{nodeLength}
+use Rattle.layout.specs.Layout.{grantsFrom, nodesFrom, pairsFrom, pairsIn, stepPricesFrom, linkPricesFrom, fileLength, relationBytes, grantBytes, nodeBytes}
 use Rattle.layout.proofs.Written.{header-long, relation-long, grant-long, node-long}
 use Rattle.writes.specs.Values.{Values, fileBytes}
 use Rattle.writes.specs.Writing.{miscounted, miscountedBy}
@@ -20,6 +21,7 @@ pub record Counted (vs : Values) : Type 0 where
   pub relations : length (vs .relations) ≡ vs .header .relations
   pub grants : length (vs .grants) ≡ vs .header .grants
   pub nodes : length (vs .nodes) ≡ vs .header .nodes
+  pub pairs : length (vs .pairs) ≡ 2 * pairsIn (vs .header)
   pub steps : length (vs .stepPrices) ≡ vs .header .nodes * vs .header .subjects
   pub links : length (vs .linkPrices) ≡ vs .header .subjects * vs .header .subjects
 
@@ -31,12 +33,13 @@ counted-of vs fine =
       relations = eqb-true _ _ (not-false _ (t .0));
       grants = eqb-true _ _ (not-false _ (t .1 .0));
       nodes = eqb-true _ _ (not-false _ (t .1 .1 .0));
-      steps = eqb-true _ _ (not-false _ (t .1 .1 .1 .0));
-      links = eqb-true _ _ (not-false _ (t .1 .1 .1 .1 .0));
+      pairs = eqb-true _ _ (not-false _ (t .1 .1 .1 .0));
+      steps = eqb-true _ _ (not-false _ (t .1 .1 .1 .1 .0));
+      links = eqb-true _ _ (not-false _ (t .1 .1 .1 .1 .1 .0));
     }
 
 pub as-long : AsLong
-unfolding fileBytes grantsFrom nodesFrom stepPricesFrom linkPricesFrom fileLength
+unfolding fileBytes grantsFrom nodesFrom pairsFrom stepPricesFrom linkPricesFrom fileLength
 as-long vs fine =
     let n = counted-of vs fine in
     rw (
@@ -49,8 +52,10 @@ as-long vs fine =
       in-order-length grantBytes 18 grant-long (vs .grants),
       n .grants,
       length-append,
-      in-order-length nodeBytes 28 node-long (vs .nodes),
+      in-order-length (nodeBytes (vs .header .version)) (nodeLength (vs .header .version)) (node-long (vs .header .version)) (vs .nodes),
       n .nodes,
+      length-append,
+      n .pairs,
       length-append,
       in-order-length (bytes 4) 4 (bytes-length 4) (vs .stepPrices),
       n .steps,

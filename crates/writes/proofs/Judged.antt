@@ -13,7 +13,7 @@ use Rattle.laws.proofs.Cases.{eq-fine, last-is}
 use Rattle.laws.proofs.Trials.{never, passed, passes-append, passed-then, refused-then, refused-alike, accepted-alike, append-alike}
 use Rattle.night.specs.declared.Header.{Header}
 use Rattle.night.specs.Versions.{known, delivers, headerLength}
-use Rattle.layout.specs.Layout.{grantsFrom, nodesFrom, stepPricesFrom, linkPricesFrom, fileLength, headerOf, asRead, headerBytes, nightOf}
+use Rattle.layout.specs.Layout.{grantsFrom, nodesFrom, pairsFrom, stepPricesFrom, linkPricesFrom, fileLength, headerOf, asRead, headerBytes, nightOf}
 use Rattle.layout.proofs.Written.{header-least}
 use Rattle.rules.specs.Rules.{userBad, countsBad}
 use Rattle.trials.specs.Trials.{notMarked, notVersioned, headerTrials, recordTrials, treeTrials, trials, checkOf}
@@ -21,7 +21,7 @@ use Rattle.writes.specs.Values.{Values, nightFrom, fileBytes}
 use Rattle.writes.specs.Writing.{miscounted, countTrials, roomTrials, writeTrials, writeOf, judgedBy}
 use Rattle.writes.specs.Back.{ValuesFit, JudgedAlike, WrittenFile, WrittenReads}
 use Rattle.writes.proofs.Counted.{as-long}
-use Rattle.writes.proofs.ReadBack.{header-read, reads-back, values-back}
+use Rattle.writes.proofs.ReadBack.{length-alike, header-read, reads-back, values-back}
 
 -- a header's limits don't ask a field that the version doesn't have
 counts-alike : (h : Header) → countsBad (asRead h) ≡ countsBad h
@@ -34,7 +34,7 @@ counts-alike h = rw (user (delivers (h .version))) refl
 
 -- the header stands within the file
 header-within : (h : Header) → headerLength (h .version) ≤ fileLength h
-unfolding grantsFrom nodesFrom stepPricesFrom linkPricesFrom fileLength
+unfolding grantsFrom nodesFrom pairsFrom stepPricesFrom linkPricesFrom fileLength
 header-within h = omega arith
 
 -- the file begins with the mark
@@ -42,11 +42,7 @@ marked : (vs : Values) → 3 ≤ length (fileBytes vs) → notMarked (fileBytes 
 unfolding notMarked anyOf fileBytes headerBytes
 marked vs l = rw (le-ltb (length (fileBytes vs)) 3 l) refl
 
--- and has the same length
-length-alike : (h : Header) → fileLength (asRead h) ≡ fileLength h
-unfolding grantsFrom nodesFrom stepPricesFrom linkPricesFrom fileLength asRead
-length-alike h = refl
-
+-- and has the same version
 version-alike : (h : Header) → asRead h .version ≡ h .version
 unfolding asRead
 version-alike h = refl

@@ -46,7 +46,7 @@ Bytes s = (k : ℕ) → getD s k 0 < 256
 abbrev pub ReadsBack : Type 0
 ReadsBack = (vs : Values) → ValuesFit vs → miscounted vs ≡ false → nightOf (fileBytes vs) ≡ nightFrom vs
 
--- and so are its values, the header as it is read
+-- and so are its values, header and nodes as they are read
 abbrev pub ValuesBack : Type 0
 ValuesBack = (vs : Values) → ValuesFit vs → miscounted vs ≡ false → valuesOf (fileBytes vs) ≡ readAs vs
 

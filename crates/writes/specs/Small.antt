@@ -7,10 +7,10 @@ use Rattle.night.specs.declared.Relation.{Relation}
 use Rattle.night.specs.declared.Grant.{Grant}
 use Rattle.night.specs.declared.Node.{Node}
 use Rattle.night.specs.Night.{noRelation, noGrant, noNode}
-use Rattle.trials.specs.Small.{small, twoPrices}
+use Rattle.trials.specs.Small.{small, twoPrices, threePairs}
 use Rattle.writes.specs.Values.{Values, withHeader}
 
--- a header: version, subjects, relations, attributes, nodes, grants, steps allowed, user
+-- a header with no pairs: version, subjects, relations, attributes, nodes, grants, steps allowed, user
 abbrev pub aHeader : ℕ → ℕ → ℕ → ℕ → ℕ → ℕ → ℕ → ℕ → Header
 aHeader version subjects relations attributes nodes grants steps user =
     record {
@@ -22,6 +22,22 @@ aHeader version subjects relations attributes nodes grants steps user =
       grants = grants;
       steps = steps;
       user = user;
+      pairs = 0;
+    }
+
+-- the same header with so many pairs
+abbrev pub counting : ℕ → Header → Header
+counting pairs h =
+    record {
+      version = h .version;
+      subjects = h .subjects;
+      relations = h .relations;
+      attributes = h .attributes;
+      nodes = h .nodes;
+      grants = h .grants;
+      steps = h .steps;
+      user = h .user;
+      pairs = pairs;
     }
 
 -- a relation: owner, set
@@ -32,7 +48,7 @@ aRelation owner set = record { owner = owner; set = set }
 abbrev pub aGrant : ℕ → ℕ → ℕ → ℕ → Grant
 aGrant relation subject clear sealed = record { relation = relation; subject = subject; clear = clear; sealed = sealed }
 
--- a node of size 1, its spare bytes 0: kind, left, right, x, y, set, needed in clear
+-- a node of size 1 that names no pairs, its spare bytes 0: kind, left, right, x, y, set, needed in clear
 abbrev pub aNode : ℕ → ℕ → ℕ → ℕ → ℕ → ℕ → ℕ → Node
 aNode kind left right x y set needed =
     record {
@@ -47,6 +63,27 @@ aNode kind left right x y set needed =
       set = set;
       needed = needed;
       size = 1;
+      first = 0;
+      count = 0;
+    }
+
+-- the same node with a first pair and a count
+abbrev pub naming : ℕ → ℕ → Node → Node
+naming first count v =
+    record {
+      kind = v .kind;
+      left = v .left;
+      right = v .right;
+      x = v .x;
+      y = v .y;
+      spare1 = v .spare1;
+      spare2 = v .spare2;
+      spare3 = v .spare3;
+      set = v .set;
+      needed = v .needed;
+      size = v .size;
+      first = first;
+      count = count;
     }
 
 -- the small file's
@@ -57,6 +94,7 @@ smallValues =
       relations = aRelation 0 1 ∷ aRelation 1 2 ∷ [];
       grants = aGrant 0 0 1 0 ∷ aGrant 1 1 2 0 ∷ aGrant 0 255 0 1 ∷ aGrant 1 255 0 2 ∷ [];
       nodes = aNode 0 255 255 0 255 1 0 ∷ aNode 0 255 255 1 255 2 0 ∷ aNode 4 0 1 255 255 0 0 ∷ aNode 2 2 255 0 255 0 1 ∷ [];
+      pairs = [];
       stepPrices = 0 ∷ 0 ∷ 0 ∷ 0 ∷ 1 ∷ 1 ∷ 1 ∷ 1 ∷ [];
       linkPrices = 0 ∷ 1 ∷ 1 ∷ 0 ∷ [];
     }
@@ -64,23 +102,23 @@ smallValues =
 -- the same values with another list
 abbrev pub withRelations : List Relation → Values → Values
 withRelations rs vs =
-    record { header = vs .header; relations = rs; grants = vs .grants; nodes = vs .nodes; stepPrices = vs .stepPrices; linkPrices = vs .linkPrices }
+    record { header = vs .header; relations = rs; grants = vs .grants; nodes = vs .nodes; pairs = vs .pairs; stepPrices = vs .stepPrices; linkPrices = vs .linkPrices }
 
 abbrev pub withGrants : List Grant → Values → Values
 withGrants gs vs =
-    record { header = vs .header; relations = vs .relations; grants = gs; nodes = vs .nodes; stepPrices = vs .stepPrices; linkPrices = vs .linkPrices }
+    record { header = vs .header; relations = vs .relations; grants = gs; nodes = vs .nodes; pairs = vs .pairs; stepPrices = vs .stepPrices; linkPrices = vs .linkPrices }
 
-abbrev pub withNodes : List Node → Values → Values
-withNodes ns vs =
-    record { header = vs .header; relations = vs .relations; grants = vs .grants; nodes = ns; stepPrices = vs .stepPrices; linkPrices = vs .linkPrices }
+abbrev pub withPairs : List ℕ → Values → Values
+withPairs qs vs =
+    record { header = vs .header; relations = vs .relations; grants = vs .grants; nodes = vs .nodes; pairs = qs; stepPrices = vs .stepPrices; linkPrices = vs .linkPrices }
 
 abbrev pub withSteps : List ℕ → Values → Values
 withSteps ps vs =
-    record { header = vs .header; relations = vs .relations; grants = vs .grants; nodes = vs .nodes; stepPrices = ps; linkPrices = vs .linkPrices }
+    record { header = vs .header; relations = vs .relations; grants = vs .grants; nodes = vs .nodes; pairs = vs .pairs; stepPrices = ps; linkPrices = vs .linkPrices }
 
 abbrev pub withLinks : List ℕ → Values → Values
 withLinks ps vs =
-    record { header = vs .header; relations = vs .relations; grants = vs .grants; nodes = vs .nodes; stepPrices = vs .stepPrices; linkPrices = ps }
+    record { header = vs .header; relations = vs .relations; grants = vs .grants; nodes = vs .nodes; pairs = vs .pairs; stepPrices = vs .stepPrices; linkPrices = ps }
 
 -- the small file with the prices 1 to 12, and its values
 abbrev pub pricedFile : List ℕ
@@ -100,6 +138,28 @@ unlikeValues =
       relations = replicate 2 noRelation;
       grants = replicate 4 noGrant;
       nodes = replicate 5 noNode;
+      pairs = [];
       stepPrices = replicate 15 0;
       linkPrices = replicate 9 0;
     }
+
+-- of the file of version 3: a join over both leaves, given the header's count of pairs, the node and the pairs' bytes
+abbrev pub pairingValues : ℕ → Node → List ℕ → Values
+pairingValues many node pairs =
+    record {
+      header = counting many (aHeader 3 2 2 4 3 4 2 0);
+      relations = aRelation 0 3 ∷ aRelation 1 12 ∷ [];
+      grants = aGrant 0 0 3 0 ∷ aGrant 1 1 12 0 ∷ aGrant 0 255 0 3 ∷ aGrant 1 255 0 12 ∷ [];
+      nodes = aNode 0 255 255 0 255 3 0 ∷ aNode 0 255 255 1 255 12 0 ∷ node ∷ [];
+      pairs = pairs;
+      stepPrices = 0 ∷ 0 ∷ 0 ∷ 0 ∷ 1 ∷ 1 ∷ [];
+      linkPrices = 0 ∷ 1 ∷ 1 ∷ 0 ∷ [];
+    }
+
+-- a join on so many pairs from the first on, with this needed set
+abbrev pub aPairing : ℕ → ℕ → ℕ → Node
+aPairing first count needed = naming first count (aNode 9 0 1 255 255 0 needed)
+
+-- on the second and the third of three pairs
+abbrev pub pairedValues : ℕ → Values
+pairedValues needed = pairingValues 3 (aPairing 1 2 needed) threePairs

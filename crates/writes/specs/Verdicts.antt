@@ -11,12 +11,13 @@ use Rattle.night.specs.declared.Header.{Header}
 use Rattle.night.specs.declared.Relation.{Relation}
 use Rattle.night.specs.declared.Grant.{Grant}
 use Rattle.night.specs.declared.Node.{Node}
-use Rattle.layout.specs.Layout.{headerBytes, asRead, relationBytes, grantBytes, nodeBytes, nightOf}
-use Rattle.trials.specs.Small.{small, withUser, grantByte}
-use Rattle.writes.specs.Values.{withHeader, Values, rowsOf, nightFrom, fileBytes, valuesOf}
+use Rattle.night.specs.declared.Pair.{Pair}
+use Rattle.layout.specs.Layout.{headerBytes, asRead, relationBytes, grantBytes, nodeBytes, nodeAsRead, nightOf}
+use Rattle.trials.specs.Small.{small, withUser, grantByte, threePairs, paired}
+use Rattle.writes.specs.Values.{withHeader, withNodes, Values, rowsOf, nightFrom, fileBytes, valuesOf}
 use Rattle.writes.specs.Writing.{miscounted, writeOf, roomAfter, rewriteOf}
-use Rattle.writes.specs.Small.{aHeader, aRelation, aGrant, aNode, smallValues, pricedFile, pricedValues, unlikeFile, unlikeValues}
-use Rattle.writes.specs.Small.{withRelations, withGrants, withNodes, withSteps, withLinks}
+use Rattle.writes.specs.Small.{aHeader, counting, aRelation, aGrant, aNode, naming, smallValues, pricedFile, pricedValues, unlikeFile, unlikeValues}
+use Rattle.writes.specs.Small.{withRelations, withGrants, withPairs, withSteps, withLinks, aPairing, pairingValues, pairedValues}
 
 -- the small values with another header
 abbrev pub headed : Header → Values
@@ -42,6 +43,36 @@ linked k v = withLinks (set (smallValues .linkPrices) k v) smallValues
 abbrev pub inTwo : ℕ → Values
 inTwo user = headed (aHeader 2 2 2 2 4 4 6 user)
 
+-- the same, with a count of pairs, and with pairs named at its last node, of which version 2 has neither
+abbrev pub countedInTwo : Values
+countedInTwo = headed (counting 1 (aHeader 2 2 2 2 4 4 6 1))
+
+abbrev pub namedInTwo : Values
+namedInTwo = withNodes (set (smallValues .nodes) 3 (naming 1 2 (aNode 2 2 255 0 255 0 1))) (inTwo 1)
+
+-- a node whose bytes are 1, 2, 3, .. 30
+abbrev pub risingNode : Node
+risingNode =
+    record {
+      kind = 1;
+      left = 2;
+      right = 3;
+      x = 4;
+      y = 5;
+      spare1 = 6;
+      spare2 = 7;
+      spare3 = 8;
+      set = 651345242494996240;
+      needed = 1230066625199609624;
+      size = 421141276;
+      first = 29;
+      count = 30;
+    }
+
+-- a pair: left's attribute, right's
+abbrev pub aPair : ℕ → ℕ → Pair
+aPair left right = record { left = left; right = right }
+
 -- the values are refused with this number and place, in a room of more than their bytes
 abbrev pub Refused : Values → ℕ → ℕ → Type 0
 Refused vs number place = writeOf vs 300 ≡ refuses number place
@@ -55,10 +86,11 @@ abbrev pub RefusedAgain : List ℕ → ℕ → ℕ → Type 0
 RefusedAgain s number place = rewriteOf s 300 ≡ refuses number place
 
 pub record WriteVerdicts : Type 0 where
-  -- a file's values, as they stand in it, prices row after row; in version 2 with the user
+  -- a file's values, as they stand in it, prices row after row; in version 2 with the user, in version 3 with the pairs, two bytes each
   pub values-stand : valuesOf small ≡ smallValues
   pub values-user : valuesOf (withUser 1 small) ≡ inTwo 1
   pub values-prices : valuesOf pricedFile ≡ pricedValues
+  pub values-pairs : valuesOf (paired 0) ≡ pairedValues 0
   pub values-own : valuesOf unlikeFile ≡ unlikeValues
   -- the night of values: a row for each node or sender, of as many prices as there are subjects
   pub night-same : nightFrom smallValues ≡ nightOf small
@@ -66,22 +98,31 @@ pub record WriteVerdicts : Type 0 where
   pub night-links : nightFrom pricedValues .linkPrices ≡ (9 ∷ 10 ∷ []) ∷ (11 ∷ 12 ∷ []) ∷ []
   pub night-steps-own : nightFrom unlikeValues .stepPrices ≡ replicate 5 (replicate 3 0)
   pub night-links-own : nightFrom unlikeValues .linkPrices ≡ replicate 3 (replicate 3 0)
+  pub night-paired : nightFrom (pairedValues 0) ≡ nightOf (paired 0)
+  pub night-pairs : nightFrom (pairedValues 0) .pairs ≡ aPair 200 64 ∷ aPair 0 2 ∷ aPair 1 3 ∷ []
   pub rows-and-columns : rowsOf (1 ∷ 2 ∷ 3 ∷ 4 ∷ 5 ∷ 6 ∷ []) 2 3 ≡ (1 ∷ 2 ∷ 3 ∷ []) ∷ (4 ∷ 5 ∷ 6 ∷ []) ∷ []
-  -- a user in a version that has none is read as 0; all else as it is
-  pub read-one : asRead (aHeader 1 3 4 5 6 7 8 9) ≡ aHeader 1 3 4 5 6 7 8 0
-  pub read-two : asRead (aHeader 2 3 4 5 6 7 8 9) ≡ aHeader 2 3 4 5 6 7 8 9
+  -- a user, a number of pairs, and the pairs that a node names are read as 0 in a version that has none; all else as it is
+  pub read-one : asRead (counting 10 (aHeader 1 3 4 5 6 7 8 9)) ≡ aHeader 1 3 4 5 6 7 8 0
+  pub read-two : asRead (counting 10 (aHeader 2 3 4 5 6 7 8 9)) ≡ aHeader 2 3 4 5 6 7 8 9
+  pub read-three : asRead (counting 10 (aHeader 3 3 4 5 6 7 8 9)) ≡ counting 10 (aHeader 3 3 4 5 6 7 8 9)
+  pub read-node-two : nodeAsRead 2 risingNode ≡ naming 0 0 risingNode
+  pub read-node-three : nodeAsRead 3 risingNode ≡ risingNode
   pub night-user : nightFrom (headed (aHeader 1 2 2 2 4 4 6 9)) ≡ nightOf small
+  pub night-counted : nightFrom countedInTwo ≡ nightOf (withUser 1 small)
+  pub night-named : nightFrom namedInTwo ≡ nightOf (withUser 1 small)
   -- the bytes of a number, its highest first
   pub two-bytes : bytes 2 258 ≡ 1 ∷ 2 ∷ []
   pub two-low : bytes 2 3 ≡ 0 ∷ 3 ∷ []
   pub four-bytes : bytes 4 16909060 ≡ 1 ∷ 2 ∷ 3 ∷ 4 ∷ []
-  -- of a header; in version 1 without the user
-  pub header-bytes : headerBytes (aHeader 258 3 4 5 6 1800 151653132 13)
-      ≡ 65 ∷ 88 ∷ 80 ∷ 1 ∷ 2 ∷ 3 ∷ 4 ∷ 5 ∷ 6 ∷ 7 ∷ 8 ∷ 9 ∷ 10 ∷ 11 ∷ 12 ∷ 13 ∷ []
-  pub header-bytes-one : headerBytes (aHeader 1 3 4 5 6 1800 151653132 13)
+  -- of a header; before version 3 without the pairs, in version 1 without the user
+  pub header-bytes : headerBytes (counting 14 (aHeader 258 3 4 5 6 1800 151653132 13))
+      ≡ 65 ∷ 88 ∷ 80 ∷ 1 ∷ 2 ∷ 3 ∷ 4 ∷ 5 ∷ 6 ∷ 7 ∷ 8 ∷ 9 ∷ 10 ∷ 11 ∷ 12 ∷ 13 ∷ 14 ∷ []
+  pub header-bytes-one : headerBytes (counting 14 (aHeader 1 3 4 5 6 1800 151653132 13))
       ≡ 65 ∷ 88 ∷ 80 ∷ 0 ∷ 1 ∷ 3 ∷ 4 ∷ 5 ∷ 6 ∷ 7 ∷ 8 ∷ 9 ∷ 10 ∷ 11 ∷ 12 ∷ []
-  pub header-bytes-two : headerBytes (aHeader 2 3 4 5 6 1800 151653132 13)
+  pub header-bytes-two : headerBytes (counting 14 (aHeader 2 3 4 5 6 1800 151653132 13))
       ≡ 65 ∷ 88 ∷ 80 ∷ 0 ∷ 2 ∷ 3 ∷ 4 ∷ 5 ∷ 6 ∷ 7 ∷ 8 ∷ 9 ∷ 10 ∷ 11 ∷ 12 ∷ 13 ∷ []
+  pub header-bytes-three : headerBytes (counting 14 (aHeader 3 3 4 5 6 1800 151653132 13))
+      ≡ 65 ∷ 88 ∷ 80 ∷ 0 ∷ 3 ∷ 3 ∷ 4 ∷ 5 ∷ 6 ∷ 7 ∷ 8 ∷ 9 ∷ 10 ∷ 11 ∷ 12 ∷ 13 ∷ 14 ∷ []
   -- of records whose bytes are 1, 2, 3, ..; of a low number, with zeros before it
   pub relation-bytes : relationBytes (aRelation 1 144964032628459529) ≡ 1 ∷ 2 ∷ 3 ∷ 4 ∷ 5 ∷ 6 ∷ 7 ∷ 8 ∷ 9 ∷ []
   pub relation-low : relationBytes (aRelation 3 258) ≡ 3 ∷ 0 ∷ 0 ∷ 0 ∷ 0 ∷ 0 ∷ 0 ∷ 1 ∷ 2 ∷ []
@@ -89,39 +130,39 @@ pub record WriteVerdicts : Type 0 where
       grantBytes (aGrant 1 2 217304205466536202 796025588171149586)
       ≡ 1 ∷ 2 ∷ 3 ∷ 4 ∷ 5 ∷ 6 ∷ 7 ∷ 8 ∷ 9 ∷ 10 ∷ 11 ∷ 12 ∷ 13 ∷ 14 ∷ 15 ∷ 16 ∷ 17 ∷ 18 ∷ []
   pub node-bytes :
-      nodeBytes
-      (record {
-        kind = 1;
-        left = 2;
-        right = 3;
-        x = 4;
-        y = 5;
-        spare1 = 6;
-        spare2 = 7;
-        spare3 = 8;
-        set = 651345242494996240;
-        needed = 1230066625199609624;
-        size = 421141276;
-      })
+      nodeBytes 2 risingNode
       ≡ 1 ∷ 2 ∷ 3 ∷ 4 ∷ 5 ∷ 6 ∷ 7 ∷ 8 ∷ 9 ∷ 10 ∷ 11 ∷ 12 ∷ 13 ∷ 14
       ∷ 15 ∷ 16 ∷ 17 ∷ 18 ∷ 19 ∷ 20 ∷ 21 ∷ 22 ∷ 23 ∷ 24 ∷ 25 ∷ 26 ∷ 27 ∷ 28 ∷ []
-  -- of the file: its sections in order; in version 2 with the user, in version 1 without, whatever its value
+  pub node-bytes-three : nodeBytes 3 risingNode ≡ nodeBytes 2 risingNode ++ (29 ∷ 30 ∷ [])
+  -- of the file: its sections in order; in version 2 with the user, in version 1 without, whatever its value; before version 3 without what names pairs
   pub file-bytes : fileBytes smallValues ≡ small
   pub file-prices : fileBytes pricedValues ≡ pricedFile
   pub file-own : fileBytes unlikeValues ≡ unlikeFile
   pub file-user : fileBytes (inTwo 1) ≡ withUser 1 small
   pub file-unused : fileBytes (headed (aHeader 1 2 2 2 4 4 6 9)) ≡ small
+  pub file-pairs : fileBytes (pairedValues 0) ≡ paired 0
+  pub file-counted : fileBytes countedInTwo ≡ withUser 1 small
+  pub file-named : fileBytes namedInTwo ≡ withUser 1 small
   -- written: into a room of just the file's bytes, and of more; a user that version 1 doesn't have is not looked at
   pub written : writeOf smallValues 265 ≡ answers 265
   pub written-more : writeOf smallValues 300 ≡ answers 265
   pub written-user : writeOf (inTwo 1) 266 ≡ answers 266
   pub written-unused : writeOf (headed (aHeader 1 2 2 2 4 4 6 9)) 265 ≡ answers 265
+  -- in version 3 with pairs, some of them needed, or with none; in version 2 a count of pairs in the header alone, and what a node names, are not looked at
+  pub written-pairs : writeOf (pairedValues 0) 243 ≡ answers 243
+  pub written-needed : writeOf (pairedValues 10) 243 ≡ answers 243
+  pub written-no-pairs : writeOf (headed (aHeader 3 2 2 2 4 4 6 1)) 275 ≡ answers 275
+  pub written-counted : writeOf countedInTwo 266 ≡ answers 266
+  pub written-named : writeOf namedInTwo 266 ≡ answers 266
+  -- and are read back as 0
+  pub counted-back : valuesOf (fileBytes countedInTwo) ≡ inTwo 1
+  pub named-back : valuesOf (fileBytes namedInTwo) ≡ inTwo 1
   -- 2: a version that isn't known; before 4
   pub version-none : Refused (headed (aHeader 0 2 2 2 4 4 6 0)) 2 0
-  pub version-other : Refused (headed (aHeader 3 2 2 2 4 4 6 0)) 2 0
+  pub version-other : Refused (headed (aHeader 4 2 2 2 4 4 6 0)) 2 0
   pub version-high : Refused (headed (aHeader 256 2 2 2 4 4 6 0)) 2 0
   pub version-high-one : Refused (headed (aHeader 257 2 2 2 4 4 6 0)) 2 0
-  pub version-before-counts : Refused (headed (aHeader 3 0 2 2 4 4 6 0)) 2 0
+  pub version-before-counts : Refused (headed (aHeader 4 0 2 2 4 4 6 0)) 2 0
   -- 4: a count outside its limits, which no list here meets; a user not below s; before 3
   pub subjects-none : Refused (headed (aHeader 1 0 2 2 4 4 6 0)) 4 0
   pub relations-many : Refused (headed (aHeader 1 2 17 2 4 4 6 0)) 4 0
@@ -140,14 +181,23 @@ pub record WriteVerdicts : Type 0 where
   pub steps-more : Refused (withSteps (smallValues .stepPrices ++ (0 ∷ [])) smallValues) 3 0
   pub links-fewer : Refused (withLinks (take 3 (smallValues .linkPrices)) smallValues) 3 0
   pub links-more : Refused (withLinks (smallValues .linkPrices ++ (0 ∷ [])) smallValues) 3 0
+  -- the pairs: one byte fewer or more, half as many, none; in version 2 one pair, whatever the header counts
+  pub pairs-fewer : Refused (pairingValues 3 (aPairing 1 2 0) (take 5 threePairs)) 3 0
+  pub pairs-more : Refused (pairingValues 3 (aPairing 1 2 0) (threePairs ++ (0 ∷ []))) 3 0
+  pub pairs-half : Refused (pairingValues 3 (aPairing 1 2 0) (take 3 threePairs)) 3 0
+  pub pairs-none : Refused (pairingValues 3 (aPairing 1 2 0) []) 3 0
+  pub pairs-early : Refused (withPairs (0 ∷ 1 ∷ []) (inTwo 1)) 3 0
+  pub pairs-early-counted : Refused (withPairs (0 ∷ 1 ∷ []) countedInTwo) 3 0
   -- also where the bytes of all together are as many: a link price for a step price, two relations for a grant
   pub prices-moved : Refused (withSteps (take 7 (smallValues .stepPrices)) (withLinks (smallValues .linkPrices ++ (0 ∷ [])) smallValues)) 3 0
   pub relations-for-grant :
       Refused (withRelations (smallValues .relations ++ smallValues .relations) (withGrants (take 3 (smallValues .grants)) smallValues)) 3 0
+  pub pairs-for-price : Refused (withPairs (threePairs ++ (0 ∷ 0 ∷ 0 ∷ 0 ∷ [])) (withSteps (0 ∷ 0 ∷ 0 ∷ 0 ∷ 1 ∷ []) (pairedValues 0))) 3 0
   -- each list is held to its own count
   pub lists-own : miscounted unlikeValues ≡ false
-  -- 3 before 5, and before 11
+  -- 3 before 5, before 8, and before 11
   pub lists-before-relations : Refused (withLinks [] (related 0 (aRelation 2 1))) 3 0
+  pub pairs-before-nodes : Refused (pairingValues 3 (aPairing 2 2 0) (take 5 threePairs)) 3 0
   pub lists-before-prices : Refused (withLinks (0 ∷ 1 ∷ 1 ∷ 1 ∷ 0 ∷ []) smallValues) 3 0
   -- 5: a relation's owner; attributes left over
   pub owner-missing : Refused (related 1 (aRelation 2 2)) 5 1
@@ -175,44 +225,63 @@ pub record WriteVerdicts : Type 0 where
         set = 0;
         needed = 1;
         size = 1;
+        first = 0;
+        count = 0;
       }))
       8 3
   pub parent-none : Refused (noded 2 (aNode 2 0 255 0 255 0 0)) 8 1
+  -- kind 9 before version 3; pairs named: none, more than 8, past the list; a first or a count in another kind
+  pub kind-early : Refused (withNodes (set (smallValues .nodes) 2 (aPairing 0 1 0)) (inTwo 1)) 8 2
+  pub names-none : Refused (pairingValues 3 (aPairing 1 0 0) threePairs) 8 2
+  pub names-many : Refused (pairingValues 9 (aPairing 0 9 0) (replicate 18 0)) 8 2
+  pub names-past : Refused (pairingValues 3 (aPairing 2 2 0) threePairs) 8 2
+  pub first-unused : Refused (pairingValues 3 (naming 1 0 (aNode 4 0 1 255 255 0 0)) threePairs) 8 2
+  pub count-unused : Refused (pairingValues 3 (naming 0 1 (aNode 4 0 1 255 255 0 0)) threePairs) 8 2
   -- 9: a leaf's relation
   pub leaf-relation : Refused (noded 1 (aNode 0 255 255 2 255 2 0)) 9 1
-  -- 10: a needed set outside what is read
+  -- an attribute of a pair that is not visible on its side
+  pub pair-left-hidden : Refused (pairingValues 1 (aPairing 0 1 0) (2 ∷ 2 ∷ [])) 9 2
+  pub pair-right-hidden : Refused (pairingValues 1 (aPairing 0 1 0) (0 ∷ 0 ∷ [])) 9 2
+  -- 10: a needed set outside what is read; half a pair
   pub needed-unread : Refused (noded 2 (aNode 4 0 1 255 255 0 1)) 10 2
+  pub needed-half : Refused (pairedValues 7) 10 2
   -- 11: a leaf's price; a step's too high; a link's too high; a subject's to itself; a running index, step prices first
   pub leaf-price : Refused (stepped 3 1) 11 3
   pub step-price : Refused (stepped 6 1000001) 11 6
   pub link-price : Refused (linked 2 1001) 11 10
   pub link-itself : Refused (linked 3 1) 11 11
-  -- 15, place 4: a room shorter than the file by one, and no room; in version 2 the file is longer by the user
+  -- 15, place 4: a room shorter than the file by one, and no room; in version 2 the file is longer by the user, in version 3 by what pairs take
   pub room-short : writeOf smallValues 264 ≡ refuses 15 4
   pub room-none : writeOf smallValues 0 ≡ refuses 15 4
   pub room-user-short : writeOf (inTwo 1) 265 ≡ refuses 15 4
-  -- last of all: after 2, 4, 3, 5, 7 and 11
-  pub version-before-room : writeOf (headed (aHeader 3 2 2 2 4 4 6 0)) 0 ≡ refuses 2 0
+  pub room-pairs-short : writeOf (pairedValues 0) 242 ≡ refuses 15 4
+  pub room-no-pairs-short : writeOf (headed (aHeader 3 2 2 2 4 4 6 1)) 274 ≡ refuses 15 4
+  -- last of all: after 2, 4, 3, 5, 7, 10 and 11
+  pub version-before-room : writeOf (headed (aHeader 4 2 2 2 4 4 6 0)) 0 ≡ refuses 2 0
   pub counts-before-room : writeOf (inTwo 2) 0 ≡ refuses 4 0
   pub lists-before-room : writeOf (withLinks [] smallValues) 0 ≡ refuses 3 0
   pub relations-before-room : writeOf (related 0 (aRelation 0 0)) 0 ≡ refuses 5 0
   pub owners-before-room : writeOf (granted 1 (aGrant 1 1 0 0)) 0 ≡ refuses 7 1
+  pub needed-before-room : writeOf (pairedValues 7) 242 ≡ refuses 10 2
   pub prices-before-room : writeOf (linked 3 1) 264 ≡ refuses 11 11
   -- the room: the file, and behind it what stood there; with a refusal all of it as it was
   pub room-after : after smallValues (replicate 265 7 ++ (8 ∷ 9 ∷ [])) ≡ small ++ (8 ∷ 9 ∷ [])
   pub room-after-just : after smallValues (replicate 265 7) ≡ small
   pub room-after-user : after (inTwo 1) (replicate 265 7 ++ (8 ∷ 9 ∷ [])) ≡ withUser 1 small ++ (9 ∷ [])
+  pub room-after-pairs : after (pairedValues 0) (replicate 243 7 ++ (8 ∷ 9 ∷ [])) ≡ paired 0 ++ (8 ∷ 9 ∷ [])
   pub room-kept : after smallValues (replicate 264 7) ≡ replicate 264 7
-  pub room-kept-version : after (headed (aHeader 3 2 2 2 4 4 6 0)) (replicate 267 7) ≡ replicate 267 7
+  pub room-kept-version : after (headed (aHeader 4 2 2 2 4 4 6 0)) (replicate 267 7) ≡ replicate 267 7
   pub room-kept-price : after (linked 3 1) (replicate 267 7) ≡ replicate 267 7
   -- a file's values written again
   pub again : rewriteOf small 265 ≡ answers 265
   pub again-more : rewriteOf small 300 ≡ answers 265
   pub again-user : rewriteOf (withUser 1 small) 266 ≡ answers 266
+  pub again-pairs : rewriteOf (paired 0) 243 ≡ answers 243
   -- 1, 2, 3, 4 and 3 as by reading; before 15
   pub again-mark : RefusedAgain (set small 2 81) 1 0
-  pub again-version : RefusedAgain (set small 4 3) 2 0
+  pub again-version : RefusedAgain (set small 4 4) 2 0
   pub again-header : RefusedAgain (take 14 small) 3 0
+  pub again-header-pairs : RefusedAgain (take 16 (paired 0)) 3 0
   pub again-counts : RefusedAgain (set small 8 65) 4 0
   pub again-fewer : RefusedAgain (take 264 small) 3 0
   pub again-more-bytes : RefusedAgain (small ++ (0 ∷ [])) 3 0
@@ -223,3 +292,5 @@ pub record WriteVerdicts : Type 0 where
   pub again-grant : RefusedAgain (set small (grantByte 2 0) 2) 6 2
   pub again-grant-before-room : rewriteOf (set small (grantByte 2 0) 2) 0 ≡ refuses 6 2
   pub again-room : rewriteOf small 264 ≡ refuses 15 4
+  pub again-half : RefusedAgain (paired 7) 10 2
+  pub again-pairs-room : rewriteOf (paired 0) 242 ≡ refuses 15 4

@@ -8,25 +8,27 @@ use Rattle.laws.specs.Choose.{if_then_else_, anyOf}
 use Rattle.laws.specs.Trials.{Trial, trial, Says, answers, refuses, verdict}
 use Rattle.night.specs.declared.Header.{Header}
 use Rattle.night.specs.Versions.{known}
-use Rattle.layout.specs.Layout.{fileLength, headerOf}
+use Rattle.layout.specs.Layout.{pairsIn, fileLength, headerOf}
 use Rattle.rules.specs.Rules.{countsBad}
 use Rattle.trials.specs.Trials.{headerTrials, recordTrials, treeTrials}
 use Rattle.writes.specs.Values.{Values, nightFrom, valuesOf}
 
--- 3: so many relations, grants, nodes, step prices and link prices are not as many as the counts say
-unfoldable pub miscountedBy : Header → ℕ → ℕ → ℕ → ℕ → ℕ → Bool
-miscountedBy h relations grants nodes stepPrices linkPrices =
+-- 3: so many relations, grants, nodes, bytes of pairs, step prices and link prices are not as many as the counts say
+unfoldable pub miscountedBy : Header → ℕ → ℕ → ℕ → ℕ → ℕ → ℕ → Bool
+miscountedBy h relations grants nodes pairs stepPrices linkPrices =
     anyOf
     (not (eqb relations (h .relations))
     ∷ not (eqb grants (h .grants))
     ∷ not (eqb nodes (h .nodes))
+    ∷ not (eqb pairs (2 * pairsIn h))
     ∷ not (eqb stepPrices (h .nodes * h .subjects))
     ∷ not (eqb linkPrices (h .subjects * h .subjects))
     ∷ [])
 
 -- the same of values
 unfoldable pub miscounted : Values → Bool
-miscounted vs = miscountedBy (vs .header) (length (vs .relations)) (length (vs .grants)) (length (vs .nodes)) (length (vs .stepPrices)) (length (vs .linkPrices))
+miscounted vs =
+    miscountedBy (vs .header) (length (vs .relations)) (length (vs .grants)) (length (vs .nodes)) (length (vs .pairs)) (length (vs .stepPrices)) (length (vs .linkPrices))
 
 -- 2: an unknown version; 4; and 3
 unfoldable pub countTrials : Values → List Trial

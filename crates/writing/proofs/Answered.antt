@@ -24,7 +24,7 @@ use Rattle.encoding.specs.Encoded.{longest, EncodedSays}
 use Rattle.encoding.specs.declared.Counted.{Counted}
 use Rattle.encoding.specs.declared.Counted.the-variants.{Right, Refused as Miscounted}
 use Rattle.encoding.proofs.Handed.{encoded-passes, encoded-refused}
-use Rattle.encoding.proofs.Places.{places-of}
+use Rattle.encoding.proofs.Places.{places-of, pairs-few}
 use Rattle.writing.specs.declared.Written.{Written}
 use Rattle.writing.specs.declared.Written.the-variants.{Bytes, Refused}
 use Rattle.writing.specs.Answers.{writtenSaid, WriteSays, RewriteSays, WrittenOnce, WriteOnce, RewriteOnce, passedUp, countedUp, JudgedSays}
@@ -102,9 +102,9 @@ module _ (vs : Values) (h : Header) (same : vs .header ≡ h) {answer : Counted}
       judged-writes vs (e .2) (e .0) before after r (rw front at judged)
 
 -- and the file ends within the longest one, and within the array
-pub ends-within : (vs : Values) {answer : Counted} (file : List ℕ) → EncodedSays vs answer file → answer ≡ Right → (fileLength (vs .header) ≤ longest) × (fileLength (vs .header) ≤ length file)
+pub ends-within : (vs : Values) {answer : Counted} (file : List ℕ) → vs .header .pairs < 256 → EncodedSays vs answer file → answer ≡ Right → (fileLength (vs .header) ≤ longest) × (fileLength (vs .header) ≤ length file)
 unfolding countTrials
-ends-within vs file made none =
+ends-within vs file few made none =
     let e = encoded-passes vs made none in
     let long = as-long vs (fine vs (e .2) (e .0)) in
-    (places-of (vs .header) (passed (countTrials vs) tt tt (e .0) .0 .1 .0) .short, rw (e .1, length-append) (omega (arith, long)))
+    (places-of (vs .header) (passed (countTrials vs) tt tt (e .0) .0 .1 .0) .short (pairs-few (vs .header) few), rw (e .1, length-append) (omega (arith, long)))

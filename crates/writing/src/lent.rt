@@ -22,6 +22,7 @@ pub(crate) fn write_lent<'p, 'r>(
     g: usize,
     nodes: [Node; MOST_NODES],
     n: usize,
+    pairs: &'p [u8],
     steps: &'p [u32],
     links: &'p [u32],
     room: &'r mut [u8],
@@ -33,6 +34,7 @@ pub(crate) fn write_lent<'p, 'r>(
           relations = take r relations;
           grants = take g grants;
           nodes = take n nodes;
+          pairs = now (pairs .entry);
           stepPrices = now (steps .entry);
           linkPrices = now (links .entry);
         })
@@ -43,6 +45,7 @@ pub(crate) fn write_lent<'p, 'r>(
         &relations[..r],
         &grants[..g],
         &nodes[..n],
+        pairs,
         steps,
         links,
         room,

@@ -12,6 +12,7 @@ use night::Grant;
 use night::Header;
 use night::Node;
 use night::Relation;
+use night::versions;
 use reading::Checked;
 ghost use mathlib.Core.Path.{_≡_};
 ghost use mathlib.Core.List.{_++_};
@@ -27,12 +28,13 @@ pub enum Written {
     Refused { number: u8, place: u32 },
 }
 
-// The file of these values, written into the room: the records in the file's order, prices row after row.
+// The file of these values, written into the room: the records in the file's order, the pairs as they stand in it, two bytes each, prices row after row.
 pub fn write<'a, 'p, 'r>(
     h: Header,
     relations: &'a [Relation],
     grants: &'a [Grant],
     nodes: &'a [Node],
+    pairs: &'p [u8],
     steps: &'p [u32],
     links: &'p [u32],
     room: &'r mut [u8],
@@ -43,6 +45,7 @@ pub fn write<'a, 'p, 'r>(
           relations = now (relations .entry);
           grants = now (grants .entry);
           nodes = now (nodes .entry);
+          pairs = now (pairs .entry);
           stepPrices = now (steps .entry);
           linkPrices = now (links .entry);
         })
@@ -59,6 +62,7 @@ pub fn write<'a, 'p, 'r>(
         grants.len(),
         third,
         nodes.len(),
+        pairs,
         steps,
         links,
         room,
@@ -74,15 +78,16 @@ fn write_taken<'p, 'r>(
     g: usize,
     nodes: [Node; MOST_NODES],
     n: usize,
+    pairs: &'p [u8],
     steps: &'p [u32],
     links: &'p [u32],
     room: &'r mut [u8],
 ) -> Written
     ensures { λ said. ⌜ ((vs : Values)
-        → Handed vs h relations r grants g nodes n (now (steps .entry)) (now (links .entry))
+        → Handed vs h relations r grants g nodes n (now (pairs .entry)) (now (steps .entry)) (now (links .entry))
         → WriteSays vs (now (room .entry)) (now (room .exit)) said) ⌝ }
 {
-    let made = encoding::encode(h, relations, r, grants, g, nodes, n, steps, links);
+    let made = encoding::encode(h, relations, r, grants, g, nodes, n, pairs, steps, links);
     let answer = made.answer;
     let Counted::Right = answer else {
         return uncounted(answer);
@@ -150,6 +155,7 @@ pub fn rewrite(file: &[u8], room: &mut [u8]) -> Written
     let Checked::Accepted(h) = answer else {
         return refused(answer);
     };
+    let pairs = again::pairs(file, h);
     let steps = again::prices(file, h, 0);
     let links = again::prices(file, h, places::step_prices(h));
     lent::write_lent(
@@ -160,6 +166,7 @@ pub fn rewrite(file: &[u8], room: &mut [u8]) -> Written
         h.grants as usize,
         again::nodes(file, h),
         h.nodes as usize,
+        &pairs[..versions::PAIR_LENGTH * places::pairs_in(h)],
         &steps[..places::step_prices(h)],
         &links[..places::link_prices(h)],
         room,

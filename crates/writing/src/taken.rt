@@ -2,6 +2,7 @@
 use encoding::MOST_GRANTS;
 use encoding::MOST_NODES;
 use encoding::MOST_RELATIONS;
+use layout::values;
 use night::Grant;
 use night::Node;
 use night::Relation;
@@ -57,24 +58,6 @@ pub(crate) fn no_grant() -> Grant
     }
 }
 
-pub(crate) fn no_node() -> Node
-    ensures { λ v. ⌜ v ≡ noNode ⌝ }
-{
-    Node {
-        kind: 0,
-        left: 0,
-        right: 0,
-        x: 0,
-        y: 0,
-        spare1: 0,
-        spare2: 0,
-        spare3: 0,
-        set: 0,
-        needed: 0,
-        size: 0,
-    }
-}
-
 // The relations, as far as the array goes.
 pub(crate) fn relations(from: &[Relation]) -> [Relation; MOST_RELATIONS]
     ensures { λ r. ⌜ ((k : ℕ) → k < mostRelations → getD r k noRelation ≡ getD (now (from .entry)) k noRelation) ⌝ }
@@ -109,7 +92,7 @@ pub(crate) fn grants(from: &[Grant]) -> [Grant; MOST_GRANTS]
 pub(crate) fn nodes(from: &[Node]) -> [Node; MOST_NODES]
     ensures { λ r. ⌜ ((k : ℕ) → k < mostNodes → getD r k noNode ≡ getD (now (from .entry)) k noNode) ⌝ }
 {
-    let blank = no_node();
+    let blank = values::no_node();
     let mut all = [blank; MOST_NODES];
     let mut i: usize = 0;
     while i < MOST_NODES {

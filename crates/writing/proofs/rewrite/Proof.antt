@@ -26,6 +26,9 @@ returns c =
     let a = b .before .before .before .args in
     rw (c .refused .ensures) (again-refused (now (a .file)) (now (a .room)) (b .check-header .ensures) _ _ (c .before .enum-told .given .1))
 
+pairs-requires : tie.Need-pairs-requires
+pairs-requires c κs = search needs
+
 prices-requires : tie.Need-prices-requires
 prices-requires c κs = search needs
 
@@ -53,58 +56,74 @@ nodes-requires c κs = search needs
 cast-write-lent-3 : tie.Need-cast-write-lent-3
 cast-write-lent-3 c = search needs
 
+pairs-in-requires : tie.Need-pairs-in-requires
+pairs-in-requires c κs = search needs
+
+mul-pairs : tie.Need-mul-pairs
+mul-pairs c = search needs
+
+array-share-prefix-pairs : tie.Need-array-share-prefix-pairs
+array-share-prefix-pairs c = search needs
+
+slice-aggregate-write-lent : tie.Need-slice-aggregate-write-lent
+slice-aggregate-write-lent c =
+    let pairs = c .before .before .before .before .before .before .before .before .before .before .before .pairs in
+    sym (length-take-le _ (pairs .result) (omega (arith, c .before .pairs-in .ensures .1, pairs .ensures .0)))
+
 step-prices-requires-2 : tie.Need-step-prices-requires-2
 step-prices-requires-2 c κs = search needs
 
 array-share-prefix-steps : tie.Need-array-share-prefix-steps
 array-share-prefix-steps c =
-    let start = c .before .before .before .before .before .before .before .before .before .before .before .before .before .before .before .before in
-    let s = now (start .args .file) in
-    let head = c .before .before .before .before .before .before .before .before .before .before .before .before .before .check-header in
-    let told = c .before .before .before .before .before .before .before .before .before .before .before .answer .given in
-    let h = told .0 .0 in
-    let places = header-places s (now (start .args .room)) (head .ensures) h (told .1) in
-    omega (arith, places .steps-few, c .step-prices2 .ensures .0, c .before .before .before .before .before .before .before .before .before .prices .ensures .0)
-
-slice-aggregate-write-lent : tie.Need-slice-aggregate-write-lent
-slice-aggregate-write-lent c =
-    let start = c .before .before .before .before .before .before .before .before .before .before .before .before .before .before .before .before .before in
-    let s = now (start .args .file) in
-    let head = c .before .before .before .before .before .before .before .before .before .before .before .before .before .before .check-header in
-    let told = c .before .before .before .before .before .before .before .before .before .before .before .before .answer .given in
-    let h = told .0 .0 in
-    let places = header-places s (now (start .args .room)) (head .ensures) h (told .1) in
-    sym (length-take-le _ (c .before .before .before .before .before .before .before .before .before .before .prices .result) (omega (arith, places .steps-few, c .before .step-prices2 .ensures .0, c .before .before .before .before .before .before .before .before .before .before .prices .ensures .0)))
-
-link-prices-requires : tie.Need-link-prices-requires
-link-prices-requires c κs = search needs
-
-array-share-prefix-links : tie.Need-array-share-prefix-links
-array-share-prefix-links c =
-    let start = c .before .before .before .before .before .before .before .before .before .before .before .before .before .before .before .before .before .before in
-    let s = now (start .args .file) in
-    let head = c .before .before .before .before .before .before .before .before .before .before .before .before .before .before .before .check-header in
-    let told = c .before .before .before .before .before .before .before .before .before .before .before .before .before .answer .given in
-    let h = told .0 .0 in
-    let places = header-places s (now (start .args .room)) (head .ensures) h (told .1) in
-    omega (arith, places .links-few, c .link-prices .ensures .0, c .before .before .before .before .before .before .before .before .before .prices2 .ensures .0)
-
-slice-aggregate-write-lent-2 : tie.Need-slice-aggregate-write-lent-2
-slice-aggregate-write-lent-2 c =
     let start = c .before .before .before .before .before .before .before .before .before .before .before .before .before .before .before .before .before .before .before in
     let s = now (start .args .file) in
     let head = c .before .before .before .before .before .before .before .before .before .before .before .before .before .before .before .before .check-header in
     let told = c .before .before .before .before .before .before .before .before .before .before .before .before .before .before .answer .given in
     let h = told .0 .0 in
     let places = header-places s (now (start .args .room)) (head .ensures) h (told .1) in
-    sym (length-take-le _ (c .before .before .before .before .before .before .before .before .before .before .prices2 .result) (omega (arith, places .links-few, c .before .link-prices .ensures .0, c .before .before .before .before .before .before .before .before .before .before .prices2 .ensures .0)))
+    omega (arith, places .steps-few, c .step-prices2 .ensures .0, c .before .before .before .before .before .before .before .before .before .before .before .prices .ensures .0)
 
-write-lent-requires : tie.Need-write-lent-requires
-write-lent-requires c κs =
+slice-aggregate-write-lent-2 : tie.Need-slice-aggregate-write-lent-2
+slice-aggregate-write-lent-2 c =
     let start = c .before .before .before .before .before .before .before .before .before .before .before .before .before .before .before .before .before .before .before .before in
     let s = now (start .args .file) in
     let head = c .before .before .before .before .before .before .before .before .before .before .before .before .before .before .before .before .before .check-header in
     let told = c .before .before .before .before .before .before .before .before .before .before .before .before .before .before .before .answer .given in
+    let h = told .0 .0 in
+    let places = header-places s (now (start .args .room)) (head .ensures) h (told .1) in
+    let steps = c .before .before .before .before .before .before .before .before .before .before .before .before .prices in
+    sym (length-take-le _ (steps .result) (omega (arith, places .steps-few, c .before .step-prices2 .ensures .0, steps .ensures .0)))
+
+link-prices-requires : tie.Need-link-prices-requires
+link-prices-requires c κs = search needs
+
+array-share-prefix-links : tie.Need-array-share-prefix-links
+array-share-prefix-links c =
+    let start = c .before .before .before .before .before .before .before .before .before .before .before .before .before .before .before .before .before .before .before .before .before in
+    let s = now (start .args .file) in
+    let head = c .before .before .before .before .before .before .before .before .before .before .before .before .before .before .before .before .before .before .check-header in
+    let told = c .before .before .before .before .before .before .before .before .before .before .before .before .before .before .before .before .answer .given in
+    let h = told .0 .0 in
+    let places = header-places s (now (start .args .room)) (head .ensures) h (told .1) in
+    omega (arith, places .links-few, c .link-prices .ensures .0, c .before .before .before .before .before .before .before .before .before .before .before .prices2 .ensures .0)
+
+slice-aggregate-write-lent-3 : tie.Need-slice-aggregate-write-lent-3
+slice-aggregate-write-lent-3 c =
+    let start = c .before .before .before .before .before .before .before .before .before .before .before .before .before .before .before .before .before .before .before .before .before .before in
+    let s = now (start .args .file) in
+    let head = c .before .before .before .before .before .before .before .before .before .before .before .before .before .before .before .before .before .before .before .check-header in
+    let told = c .before .before .before .before .before .before .before .before .before .before .before .before .before .before .before .before .before .answer .given in
+    let h = told .0 .0 in
+    let places = header-places s (now (start .args .room)) (head .ensures) h (told .1) in
+    let links = c .before .before .before .before .before .before .before .before .before .before .before .before .prices2 in
+    sym (length-take-le _ (links .result) (omega (arith, places .links-few, c .before .link-prices .ensures .0, links .ensures .0)))
+
+write-lent-requires : tie.Need-write-lent-requires
+write-lent-requires c κs =
+    let start = c .before .before .before .before .before .before .before .before .before .before .before .before .before .before .before .before .before .before .before .before .before .before .before in
+    let s = now (start .args .file) in
+    let head = c .before .before .before .before .before .before .before .before .before .before .before .before .before .before .before .before .before .before .before .before .check-header in
+    let told = c .before .before .before .before .before .before .before .before .before .before .before .before .before .before .before .before .before .before .answer .given in
     let h = told .0 .0 in
     let places = header-places s (now (start .args .room)) (head .ensures) h (told .1) in
     (places .relations-few, places .grants-few, places .nodes-few)
@@ -114,19 +133,20 @@ same-length c = search needs
 
 returns-2 : tie.Need-returns-2
 returns-2 c =
-    let start = c .before .before .before .before .before .before .before .before .before .before .before .before .before .before .before .before .before .before .before .before .before .before .before in
+    let start = c .before .before .before .before .before .before .before .before .before .before .before .before .before .before .before .before .before .before .before .before .before .before .before .before .before .before in
     let s = now (start .args .file) in
-    let head = c .before .before .before .before .before .before .before .before .before .before .before .before .before .before .before .before .before .before .before .before .check-header in
-    let told = c .before .before .before .before .before .before .before .before .before .before .before .before .before .before .before .before .before .before .answer .given in
+    let head = c .before .before .before .before .before .before .before .before .before .before .before .before .before .before .before .before .before .before .before .before .before .before .before .check-header in
+    let told = c .before .before .before .before .before .before .before .before .before .before .before .before .before .before .before .before .before .before .before .before .before .answer .given in
     let h = told .0 .0 in
     let places = header-places s (now (start .args .room)) (head .ensures) h (told .1) in
-    let relations = c .before .before .before .before .before .before .before .before .before .before .before .before .before .relations in
-    let grants = c .before .before .before .before .before .before .before .before .before .before .before .grants in
-    let nodes = c .before .before .before .before .before .before .before .before .before .nodes in
-    let steps = c .before .before .before .before .before .before .before .before .before .before .before .before .before .before .before .before .prices in
-    let links = c .before .before .before .before .before .before .before .before .before .before .before .before .before .before .prices2 in
-    let count = c .before .before .before .before .before .before .before .before .before .before .before .before .before .before .before .step-prices .ensures .0 in
-    let taken : Taken s h (relations .result) (grants .result) (nodes .result) (steps .result) (links .result) =
+    let relations = c .before .before .before .before .before .before .before .before .before .before .before .before .before .before .before .relations in
+    let grants = c .before .before .before .before .before .before .before .before .before .before .before .before .before .grants in
+    let nodes = c .before .before .before .before .before .before .before .before .before .before .before .nodes in
+    let pairs = c .before .before .before .before .before .before .before .before .before .before .before .before .before .before .before .before .before .before .before .pairs in
+    let steps = c .before .before .before .before .before .before .before .before .before .before .before .before .before .before .before .before .before .before .prices in
+    let links = c .before .before .before .before .before .before .before .before .before .before .before .before .before .before .before .before .prices2 in
+    let count = c .before .before .before .before .before .before .before .before .before .before .before .before .before .before .before .before .before .step-prices .ensures .0 in
+    let taken : Taken s h (relations .result) (grants .result) (nodes .result) (pairs .result) (steps .result) (links .result) =
     record {
       relations-long = relations .ensures .0;
       its-relations = relations .ensures .1;
@@ -134,6 +154,7 @@ returns-2 c =
       its-grants = grants .ensures .1;
       nodes-long = nodes .ensures .0;
       its-nodes = nodes .ensures .1;
+      its-pairs = pairs .ensures .1;
       steps-long = steps .ensures .0;
       its-steps = steps .ensures .1;
       links-long = links .ensures .0;
@@ -141,8 +162,8 @@ returns-2 c =
     }
     in
     let same = header-same s (now (start .args .room)) (head .ensures) h (told .1) in
-    let values = values-again s h same places (relations .result) (grants .result) (nodes .result) (steps .result) (links .result) taken (c .before .before .before .before .before .before .before .step-prices2 .ensures .0) (c .before .before .before .before .before .link-prices .ensures .0) in
-    again-writes s (now (start .args .room)) (head .ensures) h (told .1) (λ k. c .before .before .before .before .before .before .before .before .before .before .before .before .before .before .before .before .before .before .before .before .before .before .shared-slice-known .given k .fits) values (c .before .before .write-lent .ensures)
+    let values = values-again s h same places (relations .result) (grants .result) (nodes .result) (pairs .result) (steps .result) (links .result) taken (c .before .before .before .before .before .before .before .before .before .pairs-in .ensures .0) (c .before .before .before .before .before .before .before .step-prices2 .ensures .0) (c .before .before .before .before .before .link-prices .ensures .0) in
+    again-writes s (now (start .args .room)) (head .ensures) h (told .1) (λ k. c .before .before .before .before .before .before .before .before .before .before .before .before .before .before .before .before .before .before .before .before .before .before .before .before .before .shared-slice-known .given k .fits) values (c .before .before .write-lent .ensures)
 
 pub rewrite-spec : {M : Type 1} → statement M
 rewrite-spec =
@@ -153,6 +174,7 @@ rewrite-spec =
     enum-told
     refused-requires
     returns
+    pairs-requires
     prices-requires
     step-prices-requires
     prices-requires-2
@@ -162,12 +184,16 @@ rewrite-spec =
     cast-write-lent-2
     nodes-requires
     cast-write-lent-3
+    pairs-in-requires
+    mul-pairs
+    array-share-prefix-pairs
+    slice-aggregate-write-lent
     step-prices-requires-2
     array-share-prefix-steps
-    slice-aggregate-write-lent
+    slice-aggregate-write-lent-2
     link-prices-requires
     array-share-prefix-links
-    slice-aggregate-write-lent-2
+    slice-aggregate-write-lent-3
     write-lent-requires
     same-length
     returns-2)

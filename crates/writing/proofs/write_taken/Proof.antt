@@ -33,17 +33,19 @@ file-length-requires c κs = search needs
 array-share-prefix-file : tie.Need-array-share-prefix-file
 array-share-prefix-file c =
     let made = c .before .before .before .before .encode in
-    let a = c .before .before .before .before .before .before .before .before .args in
-    let vs = handedIn (a .h) (a .relations) (a .r) (a .grants) (a .g) (a .nodes) (a .n) (now (a .steps)) (now (a .links)) in
-    let ends = ends-within vs (made .result .file) (made .ensures vs (handed-in (a .h) (a .relations) (a .r) (a .grants) (a .g) (a .nodes) (a .n) (now (a .steps)) (now (a .links)))) (c .before .before .enum-told .given .1) in
+    let start = c .before .before .before .before .before .before .before .before .before in
+    let a = start .args in
+    let vs = handedIn (a .h) (a .relations) (a .r) (a .grants) (a .g) (a .nodes) (a .n) (now (a .pairs)) (now (a .steps)) (now (a .links)) in
+    let ends = ends-within vs (made .result .file) (start .good .0 .1 .1 .1 .1 .1 .1 .1 .1 .1 .1 .0 .1) (made .ensures vs (handed-in (a .h) (a .relations) (a .r) (a .grants) (a .g) (a .nodes) (a .n) (now (a .pairs)) (now (a .steps)) (now (a .links)))) (c .before .before .enum-told .given .1) in
     omega (arith, ends .0, ends .1, c .file-length .ensures)
 
 slice-aggregate-judged : tie.Need-slice-aggregate-judged
 slice-aggregate-judged c =
     let made = c .before .before .before .before .before .encode in
-    let a = c .before .before .before .before .before .before .before .before .before .args in
-    let vs = handedIn (a .h) (a .relations) (a .r) (a .grants) (a .g) (a .nodes) (a .n) (now (a .steps)) (now (a .links)) in
-    let ends = ends-within vs (made .result .file) (made .ensures vs (handed-in (a .h) (a .relations) (a .r) (a .grants) (a .g) (a .nodes) (a .n) (now (a .steps)) (now (a .links)))) (c .before .before .before .enum-told .given .1) in
+    let start = c .before .before .before .before .before .before .before .before .before .before in
+    let a = start .args in
+    let vs = handedIn (a .h) (a .relations) (a .r) (a .grants) (a .g) (a .nodes) (a .n) (now (a .pairs)) (now (a .steps)) (now (a .links)) in
+    let ends = ends-within vs (made .result .file) (start .good .0 .1 .1 .1 .1 .1 .1 .1 .1 .1 .1 .0 .1) (made .ensures vs (handed-in (a .h) (a .relations) (a .r) (a .grants) (a .g) (a .nodes) (a .n) (now (a .pairs)) (now (a .steps)) (now (a .links)))) (c .before .before .before .enum-told .given .1) in
     sym (length-take-le _ (made .result .file) (omega (arith, ends .1, c .before .file-length .ensures)))
 
 judged-requires : tie.Need-judged-requires

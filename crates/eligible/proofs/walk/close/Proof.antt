@@ -1,9 +1,11 @@
 -- Each part is what its function promises of it.
 use Prim.Native.Nat.{ℕ}
 use mathlib.Core.Path.{refl, ap, _∙_}
+use denote.Ref.{now}
 use lib.ListN.{set}
 use borrow.Author.Needs.{needs}
 use Rattle.sets.specs.Sets.{minus}
+use Rattle.layout.specs.Layout.{nightIn}
 use Rattle.eligible.proofs.Closed.{close-taken, close-made, pass-columns}
 use Rattle.eligible.proofs.walk.close.Statement.{statement}
 use Rattle.eligible.proofs.walk.close.Tie as tie
@@ -47,10 +49,10 @@ returns c =
     let m = o .before .before in
     let t = m .before in
     let b = t .before .before in
-    let a = b .before .args in
+    let a = b .before .before .args in
     let taken = close-taken (a .v) (a .l .columns) (a .r) (b .least-view .ensures) (t .before .least-view2 .ensures) (t .taken .ensures) in
     record {
-      columns = close-made (a .v) (a .l .columns) (a .r) taken (m .made .ensures);
+      columns = close-made (a .v) (a .l .columns) (a .r) (nightIn (now (a .file)) (a .h)) taken (m .made .ensures);
       put-out = o .out-after .ensures .0;
       tied-after = o .out-after .ensures .1;
       in-clear = refl;
@@ -58,7 +60,7 @@ returns c =
           ap (λ (x : ℕ). set (a .sets .now) (a .i) x)
           (c .minus .ensures
           ∙ ap (λ (x : ℕ). minus x (o .out-after .result))
-          (pass-columns (a .s) (a .clear .now) (a .sealed .now) (a .v) (a .l .columns) (a .r) (t .taken .result) taken (c .before .passing .ensures)));
+          (pass-columns (a .h .subjects) (a .clear .now) (a .sealed .now) (a .v) (a .l .columns) (a .r) (t .taken .result) taken (c .before .passing .ensures)));
     }
 
 pub close-spec : {M : Type 1} → statement M

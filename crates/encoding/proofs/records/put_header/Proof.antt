@@ -10,7 +10,7 @@ use Rattle.encoding.proofs.numbers.put_four.Reads as put-four-reads
 use Rattle.encoding.proofs.numbers.put_two.Reads as put-two-reads
 use Rattle.encoding.proofs.records.put_counts.Reads as put-counts-reads
 use Rattle.encoding.proofs.records.put_mark.Reads as put-mark-reads
-use Rattle.encoding.proofs.records.put_user.Reads as put-user-reads
+use Rattle.encoding.proofs.records.put_last.Reads as put-last-reads
 
 -- src/records.rt:22:5
 put-mark-requires : tie.Need-put-mark-requires
@@ -45,8 +45,8 @@ put-four-requires : tie.Need-put-four-requires
 put-four-requires c κs = omega (arith, header-least (c .before .before .before .before .before .before .before .before .before .before .before .before .before .before .before .before .before .before .before .before .before .args .h .version))
 
 -- src/records.rt:27:5
-put-user-requires : tie.Need-put-user-requires
-put-user-requires c κs = search needs
+put-last-requires : tie.Need-put-last-requires
+put-last-requires c κs = omega (arith, c .before .before .before .before .before .before .before .before .before .before .before .before .before .before .before .before .before .before .before .before .before .before .before .before .before .pre)
 
 -- src/records.rt:18:1
 same-length : tie.Need-same-length
@@ -58,7 +58,7 @@ returns c =
     let mark = c .before .before .before .before .before .before .before .before .before .before .before .before .before .before .before .before .before .before .before .before .before .before .before .before .before in
     let h = mark .before .before .before .args .h in (
       header-put h (mark .put-mark .ensures) (c .before .before .before .before .before .before .before .before .before .before .before .before .before .before .before .before .before .before .before .before .put-two .ensures) (c .before .before .before .before .before .before .before .before .before .before .before .before .before .before .before .before .put-counts .ensures) (c .before .before .before .before .before .before .before .before .before .before .before .put-two2 .ensures) (c .before .before .before .before .before .before .put-four .ensures)
-          (c .before .before .put-user .ensures),
+          (c .before .before .put-last .ensures),
       record { version = omega arith; grants = omega arith; steps = omega arith },
     )
 
@@ -74,6 +74,6 @@ put-header-spec =
     put-two-requires-2
     cast-put-four
     put-four-requires
-    put-user-requires
+    put-last-requires
     same-length
     returns)

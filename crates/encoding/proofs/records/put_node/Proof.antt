@@ -1,3 +1,4 @@
+use Rattle.layout.proofs.Written.{node-least}
 use Rattle.encoding.proofs.Put.{node-put}
 use native.Mathlib.Omega.{arith}
 use borrow.Author.Needs.{needs}
@@ -7,51 +8,56 @@ use Rattle.encoding.proofs.records.put_node.Reads as reads
 use Rattle.encoding.proofs.records.put_node.Lts as lts
 use Rattle.encoding.proofs.numbers.put_eight.Reads as put-eight-reads
 use Rattle.encoding.proofs.numbers.put_four.Reads as put-four-reads
+use Rattle.encoding.proofs.records.put_names.Reads as put-names-reads
 use Rattle.encoding.proofs.records.put_start.Reads as put-start-reads
 
--- src/records.rt:87:5
+-- src/records.rt:93:5
 put-start-requires : tie.Need-put-start-requires
-put-start-requires c κs = search needs
+put-start-requires c κs = omega (arith, node-least (c .before .before .args .version))
 
--- src/records.rt:88:30
+-- src/records.rt:94:30
 add-put-eight : tie.Need-add-put-eight
 add-put-eight c = search needs
 
--- src/records.rt:88:5
+-- src/records.rt:94:5
 put-eight-requires : tie.Need-put-eight-requires
-put-eight-requires c κs = search needs
+put-eight-requires c κs = omega (arith, node-least (c .before .before .before .before .before .before .args .version))
 
--- src/records.rt:89:30
+-- src/records.rt:95:30
 add-put-eight-2 : tie.Need-add-put-eight-2
 add-put-eight-2 c = search needs
 
--- src/records.rt:89:5
+-- src/records.rt:95:5
 put-eight-requires-2 : tie.Need-put-eight-requires-2
-put-eight-requires-2 c κs = search needs
+put-eight-requires-2 c κs = omega (arith, node-least (c .before .before .before .before .before .before .before .before .before .before .args .version))
 
--- src/records.rt:90:29
+-- src/records.rt:96:29
 add-put-four : tie.Need-add-put-four
 add-put-four c = search needs
 
--- src/records.rt:90:38
+-- src/records.rt:96:38
 cast-put-four : tie.Need-cast-put-four
 cast-put-four c = search needs
 
--- src/records.rt:90:5
+-- src/records.rt:96:5
 put-four-requires : tie.Need-put-four-requires
-put-four-requires c κs = search needs
+put-four-requires c κs = omega (arith, node-least (c .before .before .before .before .before .before .before .before .before .before .before .before .before .before .before .args .version))
 
--- src/records.rt:83:1
+-- src/records.rt:97:5
+put-names-requires : tie.Need-put-names-requires
+put-names-requires c κs = search needs
+
+-- src/records.rt:89:1
 same-length : tie.Need-same-length
 same-length c = search needs
 
--- src/records.rt:83:1
+-- src/records.rt:89:1
 returns : tie.Need-returns
 returns c =
-    let start = c .before .before .before .before .before .before .before .before .before .before .before .before .before .before .before in
-    let v = start .before .before .before .args .v in
-    let fits = c .before .before .before .struct-known .given in
-    (node-put v (start .put-start .ensures) (c .before .before .before .before .before .before .before .before .before .before .before .put-eight .ensures) (c .before .before .before .before .before .before .before .put-eight2 .ensures) (c .before .before .put-four .ensures), (fits .1 .1 .1 .1 .1 .1 .1 .1 .0 .fits, fits .1 .1 .1 .1 .1 .1 .1 .1 .1 .0 .fits, fits .1 .1 .1 .1 .1 .1 .1 .1 .1 .1 .0 .fits))
+    let start = c .before .before .before .before .before .before .before .before .before .before .before .before .before .before .before .before .before .before .before in
+    let a = start .before .before .before .args in
+    let fits = c .before .before .before .before .before .before .before .struct-known .given in
+    (node-put (a .version) (a .v) (start .put-start .ensures) (c .before .before .before .before .before .before .before .before .before .before .before .before .before .before .before .put-eight .ensures) (c .before .before .before .before .before .before .before .before .before .before .before .put-eight2 .ensures) (c .before .before .before .before .before .before .put-four .ensures) (c .before .before .put-names .ensures), (fits .1 .1 .1 .1 .1 .1 .1 .1 .0 .fits, fits .1 .1 .1 .1 .1 .1 .1 .1 .1 .0 .fits, fits .1 .1 .1 .1 .1 .1 .1 .1 .1 .1 .0 .fits))
 
 pub put-node-spec : {M : Type 1} → statement M
 put-node-spec =
@@ -65,5 +71,6 @@ put-node-spec =
     add-put-four
     cast-put-four
     put-four-requires
+    put-names-requires
     same-length
     returns)

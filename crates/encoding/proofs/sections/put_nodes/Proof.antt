@@ -5,57 +5,86 @@ use mathlib.Core.List.{List}
 use native.Mathlib.Omega.{arith}
 use lib.ListN.{length, getD}
 use Rattle.night.specs.declared.Node.{Node}
+use Rattle.night.specs.Versions.{nodeLength}
 use Rattle.night.specs.Night.{noNode}
 use Rattle.layout.specs.Layout.{nodeBytes}
 use Rattle.layout.proofs.Written.{node-long}
 use Rattle.writes.specs.Back.{NodeFits}
+use Rattle.writes.proofs.Again.{entry-ends}
 use Rattle.encoding.proofs.Put.{kept-long}
 use Rattle.encoding.proofs.Section.{SoFar, none-yet, one-more}
 use Rattle.encoding.proofs.sections.put_nodes.Statement.{statement}
 use Rattle.encoding.proofs.sections.put_nodes.Tie as tie
+use Rattle.encoding.proofs.sections.put_nodes.Reads as reads
+use Rattle.encoding.proofs.sections.put_nodes.Lts as lts
+use Rattle.encoding.proofs.records.put_node.Reads as put-node-reads
+use Rattle.night.proofs.versions.nodes_length.Reads as nodes-length-reads
 
 abbrev entry : List Node → ℕ → Node
 entry nodes k = getD nodes k noNode
 
 abbrev Inv-loop : tie.InvT-loop
-Inv-loop room₀ at n nodes i₀ room i = (i ≤ n) × (length room ≡ length room₀) × SoFar nodeBytes NodeFits (entry nodes) room₀ at i room
+Inv-loop room₀ at n version nodes i₀ room i = (i ≤ n) × (length room ≡ length room₀) × SoFar (nodeBytes version) NodeFits (entry nodes) room₀ at i room
 
 abbrev μ-loop : tie.MeasureT-loop
-μ-loop room₀ at n nodes i₀ room i = n - i
+μ-loop room₀ at n version nodes i₀ room i = n - i
 
+-- src/sections.rt:70:5
 loop-holds : tie.Need-loop-holds Inv-loop μ-loop
-loop-holds c = (omega arith, refl, none-yet nodeBytes NodeFits (entry (c .before .args .t3)) _ _)
+loop-holds c =
+    let a = c .before .args in
+    (omega arith, refl, none-yet (nodeBytes (a .version)) NodeFits (entry (a .t3)) _ _)
 
+-- src/sections.rt:71:17
 mul-v : tie.Need-mul-v Inv-loop μ-loop
 mul-v c = omega arith
 
+-- src/sections.rt:71:17
 array-copy-out-v : tie.Need-array-copy-out-v Inv-loop μ-loop
 array-copy-out-v c = omega arith
 
-mul-put-node : tie.Need-mul-put-node Inv-loop μ-loop
-mul-put-node c = omega arith
+-- src/sections.rt:72:54
+cast-nodes-length : tie.Need-cast-nodes-length Inv-loop μ-loop
+cast-nodes-length c = omega arith
 
+-- src/sections.rt:72:13
+nodes-length-requires : tie.Need-nodes-length-requires Inv-loop μ-loop
+nodes-length-requires c κs = tt
+
+-- src/sections.rt:73:33
 add-put-node : tie.Need-add-put-node Inv-loop μ-loop
 add-put-node c = omega arith
 
+-- src/sections.rt:73:9
 put-node-requires : tie.Need-put-node-requires Inv-loop μ-loop
-put-node-requires c κs = omega arith
+put-node-requires c κs =
+    let v = c .before .nodes-length in
+    let b = c .before .before .before .before in
+    let a = b .before .before .args in
+    omega (arith, v .ensures .0, entry-ends (nodeLength (a .version)) (a .n) (b .loop .i) (omega arith))
 
+-- src/sections.rt:74:9
 add-i : tie.Need-add-i Inv-loop μ-loop
 add-i c = omega arith
 
+-- src/sections.rt:70:5
 loop-less : tie.Need-loop-less Inv-loop μ-loop
 loop-less c = omega arith
 
+-- src/sections.rt:70:5
 loop-again : tie.Need-loop-again Inv-loop μ-loop
 loop-again c =
-    let put = c .before .before .put-node .ensures in
-    let b = c .before .before .before .before .before .before in
-    (omega arith, kept-long (put .0) ∙ b .loop .inv .1, one-more nodeBytes NodeFits (entry (b .before .before .args .t3)) 28 node-long (b .loop .inv .2) (put .0) (put .1))
+    let v = c .before .before .before .before .nodes-length in
+    let b = c .before .before .before .before .before .before .before in
+    let a = b .before .before .args in
+    let put = rw (v .ensures .0) at (c .before .before .put-node .ensures) in
+    (omega arith, kept-long (put .0) ∙ b .loop .inv .1, one-more (nodeBytes (a .version)) NodeFits (entry (a .t3)) (nodeLength (a .version)) (node-long (a .version)) (b .loop .inv .2) (put .0) (put .1))
 
+-- src/sections.rt:58:1
 same-length : tie.Need-same-length Inv-loop μ-loop
 same-length c = c .before .loop .inv .1
 
+-- src/sections.rt:58:1
 returns : tie.Need-returns Inv-loop μ-loop
 returns c =
     let b = c .before .loop in
@@ -71,7 +100,8 @@ put-nodes-spec =
     loop-holds
     mul-v
     array-copy-out-v
-    mul-put-node
+    cast-nodes-length
+    nodes-length-requires
     add-put-node
     put-node-requires
     add-i

@@ -15,15 +15,15 @@ abbrev bytePast : List ℕ → ℕ → ℕ → ℕ
 bytePast s at k = getD s (at + k) 0
 
 abbrev Inv-loop : tie.InvT-loop
-Inv-loop file at out₀ i₀ out i = (length out ≡ 28) × (i ≤ 28) × Agrees (λ before. bytePast file at) 0 i out
+Inv-loop file at out₀ i₀ out i = (length out ≡ 30) × (i ≤ 30) × Agrees (λ before. bytePast file at) 0 i out
 
 abbrev μ-loop : tie.MeasureT-loop
-μ-loop file at out₀ i₀ out i = 28 - i
+μ-loop file at out₀ i₀ out i = 30 - i
 
 loop-holds : tie.Need-loop-holds Inv-loop μ-loop
 loop-holds c =
     let a = c .before .args in
-    (refl, omega arith, agrees-none (λ before. bytePast (now (a .file)) (a .at)) 0 28)
+    (refl, omega arith, agrees-none (λ before. bytePast (now (a .file)) (a .at)) 0 30)
 
 add-byte : tie.Need-add-byte Inv-loop μ-loop
 add-byte c = omega arith

@@ -1,15 +1,15 @@
--- The nodes stand before the step prices; a count of nodes is below 256.
+-- The pairs stand before the step prices.
 use borrow.Author.Needs.{needs}
 use native.Mathlib.Omega.{arith}
 use Rattle.layout.specs.Layout.{stepPricesFrom}
 use Rattle.layout.proofs.places.step_prices_from.Statement.{statement}
 use Rattle.layout.proofs.places.step_prices_from.Tie as tie
 
-nodes-from-requires : tie.Need-nodes-from-requires
-nodes-from-requires c κs = search needs
+pairs-from-requires : tie.Need-pairs-from-requires
+pairs-from-requires c κs = search needs
 
-cast-result : tie.Need-cast-result
-cast-result c = search needs
+pairs-in-requires : tie.Need-pairs-in-requires
+pairs-in-requires c κs = search needs
 
 mul-result : tie.Need-mul-result
 mul-result c = search needs
@@ -23,4 +23,4 @@ returns c = (omega arith, omega arith)
 
 pub step-prices-from-spec : {M : Type 1} → statement M
 step-prices-from-spec =
-    tie.close (tie.spec nodes-from-requires cast-result mul-result add-result returns)
+    tie.close (tie.spec pairs-from-requires pairs-in-requires mul-result add-result returns)

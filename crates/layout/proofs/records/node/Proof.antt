@@ -1,8 +1,8 @@
 -- In its section a record is read where it stands, and past the section is the one of zeros.
 use borrow.Author.Needs.{needs}
+use native.Mathlib.Omega.{arith}
 use mathlib.Core.Path.{sym, _∙_}
 use denote.Ref.{now}
-use native.Mathlib.Omega.{arith}
 use Rattle.layout.proofs.Sections.{node-past}
 use Rattle.layout.proofs.Read.{node-read}
 use Rattle.layout.proofs.records.node.Statement.{statement}
@@ -22,8 +22,11 @@ returns c =
 nodes-from-requires : tie.Need-nodes-from-requires
 nodes-from-requires c κs = search needs
 
-mul-node-at : tie.Need-mul-node-at
-mul-node-at c = search needs
+cast-nodes-length : tie.Need-cast-nodes-length
+cast-nodes-length c = search needs
+
+nodes-length-requires : tie.Need-nodes-length-requires
+nodes-length-requires c κs = search needs
 
 add-node-at : tie.Need-add-node-at
 add-node-at c = search needs
@@ -33,8 +36,8 @@ node-at-requires c κs = search needs
 
 returns-2 : tie.Need-returns-2
 returns-2 c =
-    let a = c .before .before .before .before .before .args in
-    node-read (now (a .file)) (a .h) (a .i) (omega arith) (c .before .nodes-from .ensures .0) (c .node-at .ensures)
+    let a = c .before .before .before .before .before .before .args in
+    node-read (now (a .file)) (a .h) (a .i) (omega arith) (c .before .before .nodes-from .ensures .0) (c .before .nodes-length .ensures .0) (c .node-at .ensures)
 
 pub node-spec : {M : Type 1} → statement M
 node-spec =
@@ -44,7 +47,8 @@ node-spec =
     no-node-requires
     returns
     nodes-from-requires
-    mul-node-at
+    cast-nodes-length
+    nodes-length-requires
     add-node-at
     node-at-requires
     returns-2)

@@ -4,6 +4,7 @@ use borrow.Author.Needs.{needs}
 use mathlib.Core.Path.{_∙_}
 use denote.Ref.{now}
 use Rattle.layout.proofs.Read.{relation-copied, grant-copied, node-copied}
+use Rattle.layout.proofs.Written.{node-most}
 use Rattle.layout.proofs.short.all_at.Statement.{statement}
 use Rattle.layout.proofs.short.all_at.Tie as tie
 
@@ -26,9 +27,9 @@ returns : tie.Need-returns
 returns c =
     let b = c .before .before .before .before in
     let a = b .before .before .args in (
-      c .before .before .relation-in .ensures ∙ relation-copied 28 (now (a .file)) (a .at) (b .padded .result) (b .padded .ensures) (omega arith),
-      c .before .grant-in .ensures ∙ grant-copied 28 (now (a .file)) (a .at) (b .padded .result) (b .padded .ensures) (omega arith),
-      c .node-in .ensures ∙ node-copied 28 (now (a .file)) (a .at) (b .padded .result) (b .padded .ensures) (omega arith),
+      c .before .before .relation-in .ensures ∙ relation-copied 30 (now (a .file)) (a .at) (b .padded .result) (b .padded .ensures) (omega arith),
+      c .before .grant-in .ensures ∙ grant-copied 30 (now (a .file)) (a .at) (b .padded .result) (b .padded .ensures) (omega arith),
+      c .node-in .ensures ∙ node-copied 30 (now (a .file)) (a .at) (b .padded .result) (b .padded .ensures) (a .version) (node-most (a .version)),
     )
 
 pub all-at-spec : {M : Type 1} → statement M

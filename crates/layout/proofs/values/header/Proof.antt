@@ -1,6 +1,10 @@
 -- Each field is read where the definition has it.
 use borrow.Author.Needs.{needs}
 use denote.Ref.{now}
+use mathlib.Core.Path.{ap, _∙_}
+use mathlib.Core.Bool.{Bool}
+use lib.ListN.{getD}
+use Rattle.laws.specs.Choose.{if_then_else_}
 use Rattle.layout.proofs.Read.{header-made}
 use Rattle.layout.proofs.values.header.Statement.{statement}
 use Rattle.layout.proofs.values.header.Tie as tie
@@ -26,21 +30,32 @@ two-requires-2 c κs = search needs
 four-requires : tie.Need-four-requires
 four-requires c κs = search needs
 
-user-requires : tie.Need-user-requires
-user-requires c κs = search needs
+delivers-requires : tie.Need-delivers-requires
+delivers-requires c κs = search needs
+
+byte-if-requires : tie.Need-byte-if-requires
+byte-if-requires c κs = search needs
+
+has-pairs-requires : tie.Need-has-pairs-requires
+has-pairs-requires c κs = search needs
+
+byte-if-requires-2 : tie.Need-byte-if-requires-2
+byte-if-requires-2 c κs = search needs
 
 returns : tie.Need-returns
 returns c =
-    let b = c .before .before .before .before .before in
-    header-made (now (b .before .before .before .before .args .file))
+    let b = c .before .before .before .before .before .before .before .before in
+    let s = now (b .before .before .before .before .args .file) in
+    header-made s
     (b .before .before .two .ensures)
     (b .before .byte .ensures)
     (b .byte2 .ensures)
-    (c .before .before .before .before .byte3 .ensures)
-    (c .before .before .before .byte4 .ensures)
-    (c .before .before .two2 .ensures)
-    (c .before .four .ensures)
-    (c .user .ensures)
+    (c .before .before .before .before .before .before .before .byte3 .ensures)
+    (c .before .before .before .before .before .before .byte4 .ensures)
+    (c .before .before .before .before .before .two2 .ensures)
+    (c .before .before .before .before .four .ensures)
+    (c .before .before .byte-if .ensures ∙ ap (λ (t : Bool). if t then getD s 15 0 else 0) (c .before .before .before .delivers .ensures))
+    (c .byte-if2 .ensures ∙ ap (λ (t : Bool). if t then getD s 16 0 else 0) (c .before .has-pairs .ensures))
 
 pub header-spec : {M : Type 1} → statement M
 header-spec =
@@ -53,5 +68,8 @@ header-spec =
     byte-requires-4
     two-requires-2
     four-requires
-    user-requires
+    delivers-requires
+    byte-if-requires
+    has-pairs-requires
+    byte-if-requires-2
     returns)

@@ -5,50 +5,53 @@ use Rattle.layout.proofs.Read.{node-made}
 use Rattle.layout.proofs.whole.node_in.Statement.{statement}
 use Rattle.layout.proofs.whole.node_in.Tie as tie
 
-shared-slice-read-t4 : tie.Need-shared-slice-read-t4
-shared-slice-read-t4 c = search needs
+has-pairs-requires : tie.Need-has-pairs-requires
+has-pairs-requires c κs = search needs
 
-add-t5 : tie.Need-add-t5
-add-t5 c = search needs
+shared-slice-read-t6 : tie.Need-shared-slice-read-t6
+shared-slice-read-t6 c = search needs
 
-shared-slice-read-t7 : tie.Need-shared-slice-read-t7
-shared-slice-read-t7 c = search needs
+add-t7 : tie.Need-add-t7
+add-t7 c = search needs
 
-add-t8 : tie.Need-add-t8
-add-t8 c = search needs
+shared-slice-read-t9 : tie.Need-shared-slice-read-t9
+shared-slice-read-t9 c = search needs
 
-shared-slice-read-t10 : tie.Need-shared-slice-read-t10
-shared-slice-read-t10 c = search needs
+add-t10 : tie.Need-add-t10
+add-t10 c = search needs
 
-add-t11 : tie.Need-add-t11
-add-t11 c = search needs
+shared-slice-read-t12 : tie.Need-shared-slice-read-t12
+shared-slice-read-t12 c = search needs
 
-shared-slice-read-t13 : tie.Need-shared-slice-read-t13
-shared-slice-read-t13 c = search needs
+add-t13 : tie.Need-add-t13
+add-t13 c = search needs
 
-add-t14 : tie.Need-add-t14
-add-t14 c = search needs
+shared-slice-read-t15 : tie.Need-shared-slice-read-t15
+shared-slice-read-t15 c = search needs
 
-shared-slice-read-t16 : tie.Need-shared-slice-read-t16
-shared-slice-read-t16 c = search needs
+add-t16 : tie.Need-add-t16
+add-t16 c = search needs
 
-add-t17 : tie.Need-add-t17
-add-t17 c = search needs
+shared-slice-read-t18 : tie.Need-shared-slice-read-t18
+shared-slice-read-t18 c = search needs
 
-shared-slice-read-t19 : tie.Need-shared-slice-read-t19
-shared-slice-read-t19 c = search needs
+add-t19 : tie.Need-add-t19
+add-t19 c = search needs
 
-add-t20 : tie.Need-add-t20
-add-t20 c = search needs
+shared-slice-read-t21 : tie.Need-shared-slice-read-t21
+shared-slice-read-t21 c = search needs
 
-shared-slice-read-t22 : tie.Need-shared-slice-read-t22
-shared-slice-read-t22 c = search needs
+add-t22 : tie.Need-add-t22
+add-t22 c = search needs
 
-add-t23 : tie.Need-add-t23
-add-t23 c = search needs
+shared-slice-read-t24 : tie.Need-shared-slice-read-t24
+shared-slice-read-t24 c = search needs
 
-shared-slice-read-t25 : tie.Need-shared-slice-read-t25
-shared-slice-read-t25 c = search needs
+add-t25 : tie.Need-add-t25
+add-t25 c = search needs
+
+shared-slice-read-t27 : tie.Need-shared-slice-read-t27
+shared-slice-read-t27 c = search needs
 
 add-eight-in : tie.Need-add-eight-in
 add-eight-in c = search needs
@@ -68,35 +71,54 @@ add-four-in c = search needs
 four-in-requires : tie.Need-four-in-requires
 four-in-requires c κs = search needs
 
+add-byte-if : tie.Need-add-byte-if
+add-byte-if c = search needs
+
+byte-if-requires : tie.Need-byte-if-requires
+byte-if-requires c κs = search needs
+
+add-byte-if-2 : tie.Need-add-byte-if-2
+add-byte-if-2 c = search needs
+
+byte-if-requires-2 : tie.Need-byte-if-requires-2
+byte-if-requires-2 c κs = search needs
+
 returns : tie.Need-returns
 returns c =
-    let b = c .before .before .before .before in
-    let a = b .before .before .before .before .before .before .before .before .args in
-    node-made (now (a .file)) (a .at) (c .before .before .eight-in .ensures) (c .before .eight-in2 .ensures) (c .four-in .ensures)
+    let b = c .before .before .before .before .before .before in
+    let h = b .before .before .before .before .before .before .before in
+    let a = h .before .before .args in
+    node-made (a .version) (now (a .file)) (a .at) (h .has-pairs .ensures) (c .before .before .before .before .eight-in .ensures)
+    (c .before .before .before .eight-in2 .ensures) (c .before .before .four-in .ensures) (c .before .byte-if .ensures) (c .byte-if2 .ensures)
 
 pub node-in-spec : {M : Type 1} → statement M
 node-in-spec =
     tie.close
     (tie.spec
-    shared-slice-read-t4
-    add-t5
-    shared-slice-read-t7
-    add-t8
-    shared-slice-read-t10
-    add-t11
-    shared-slice-read-t13
-    add-t14
-    shared-slice-read-t16
-    add-t17
-    shared-slice-read-t19
-    add-t20
-    shared-slice-read-t22
-    add-t23
-    shared-slice-read-t25
+    has-pairs-requires
+    shared-slice-read-t6
+    add-t7
+    shared-slice-read-t9
+    add-t10
+    shared-slice-read-t12
+    add-t13
+    shared-slice-read-t15
+    add-t16
+    shared-slice-read-t18
+    add-t19
+    shared-slice-read-t21
+    add-t22
+    shared-slice-read-t24
+    add-t25
+    shared-slice-read-t27
     add-eight-in
     eight-in-requires
     add-eight-in-2
     eight-in-requires-2
     add-four-in
     four-in-requires
+    add-byte-if
+    byte-if-requires
+    add-byte-if-2
+    byte-if-requires-2
     returns)

@@ -1,5 +1,6 @@
 -- A leaf by its relation, a step by what is visible in its operands.
 use borrow.Author.Needs.{needs}
+use Rattle.laws.specs.Choose.{anyOf}
 use Rattle.laws.proofs.Cases.{cases}
 use Rattle.trials.specs.Trials.{attributesBad}
 use Rattle.layout.specs.Layout.{nightIn}
@@ -37,10 +38,20 @@ step-bad-requires : tie.Need-step-bad-requires
 step-bad-requires c κs = search needs
 
 returns-2 : tie.Need-returns-2
-unfolding attributesBad nightIn
+unfolding attributesBad nightIn anyOf
 returns-2 c =
-    let v = c .before .before .before .before .before .node .result in
-    rw (← c .before .before .before .before .before .node .ensures, ← c .before .before .before .before .before .before .before .before .pre (v .left), ← c .before .before .entry .ensures, ← c .before .before .before .before .before .before .before .before .pre (v .right), ← c .before .entry2 .ensures, ← c .step-bad .ensures)
+    let v = c .before .before .before .before .before .before .node .result in
+    rw (← c .before .before .before .before .before .before .node .ensures, ← c .before .before .before .before .before .before .before .before .before .pre (v .left), ← c .before .before .before .entry .ensures, ← c .before .before .before .before .before .before .before .before .before .pre (v .right), ← c .before .before .entry2 .ensures, ← c .before .step-bad .ensures)
+    (search cases depth 20)
+
+pairs-bad-requires : tie.Need-pairs-bad-requires
+pairs-bad-requires c κs = search needs
+
+returns-3 : tie.Need-returns-3
+unfolding attributesBad nightIn anyOf
+returns-3 c =
+    let v = c .before .before .before .before .before .before .before .node .result in
+    rw (← c .before .before .before .before .before .before .before .node .ensures, ← c .before .before .before .before .before .before .before .before .before .before .pre (v .left), ← c .before .before .before .before .entry .ensures, ← c .before .before .before .before .before .before .before .before .before .before .pre (v .right), ← c .before .before .before .entry2 .ensures, ← c .before .before .step-bad .ensures, ← c .pairs-bad .ensures)
     (search cases depth 20)
 
 pub attributes-bad-spec : {M : Type 1} → statement M
@@ -56,4 +67,6 @@ attributes-bad-spec =
     entry-requires
     entry-requires-2
     step-bad-requires
-    returns-2)
+    returns-2
+    pairs-bad-requires
+    returns-3)

@@ -17,5 +17,9 @@ returns-3 : tie.Need-returns-3
 unfolding usesRight anyOf
 returns-3 c = search cases depth 20
 
+returns-4 : tie.Need-returns-4
+unfolding usesRight anyOf
+returns-4 c = search cases depth 20
+
 pub uses-right-spec : {M : Type 1} → statement M
-uses-right-spec = tie.close (tie.spec returns returns-2 returns-3)
+uses-right-spec = tie.close (tie.spec returns returns-2 returns-3 returns-4)

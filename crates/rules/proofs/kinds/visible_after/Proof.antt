@@ -65,7 +65,11 @@ returns-9 c =
 
 returns-10 : tie.Need-returns-10
 unfolding visibleAfter anyOf
-returns-10 c = search cases depth 20
+returns-10 c = rw (← c .before .before .before .before .before .before .before .union .ensures) (search cases depth 20)
+
+returns-11 : tie.Need-returns-11
+unfolding visibleAfter anyOf
+returns-11 c = search cases depth 20
 
 pub visible-after-spec : {M : Type 1} → statement M
 visible-after-spec =
@@ -85,4 +89,5 @@ visible-after-spec =
     minus-requires
     union-requires-3
     returns-9
-    returns-10)
+    returns-10
+    returns-11)

@@ -4,9 +4,9 @@ use mathlib.Core.Path.{_≡_}
 use mathlib.Core.Bool.{true}
 use native.Mathlib.Omega.{arith}
 use lib.Dec.{ltb}
-use borrow.Author.Tests.{lt-ltb}
+use borrow.Author.Tests.{lt-ltb, le-ltb}
 use Rattle.laws.specs.Choose.{anyOf}
-use Rattle.laws.proofs.Cases.{cases}
+use Rattle.laws.proofs.Cases.{cases, last-is}
 use Rattle.rules.specs.Rules.{countsBad}
 use Rattle.rules.proofs.records.counts_bad.Statement.{statement}
 use Rattle.rules.proofs.records.counts_bad.Tie as tie
@@ -56,7 +56,21 @@ user-bad-requires c κs = search needs
 
 returns-10 : tie.Need-returns-10
 unfolding countsBad anyOf
-returns-10 c = rw (← c .user-bad .ensures) (search cases depth 20)
+returns-10 c =
+    let relations = c .before .before .before .before .before .before .before .before .before .before .before .before .before in
+    let a = relations .before .before .before .before .before .before .args in
+    rw (
+      le-ltb (a .h .subjects) 1 (omega arith),
+      le-ltb 16 (a .h .subjects) (omega arith),
+      le-ltb (a .h .relations) 1 (omega arith),
+      le-ltb 16 (a .h .relations) (omega (arith, c .before .before .before .before .before .before .before .before .before .before .before .if4 .left)),
+      le-ltb (a .h .attributes) 1 (omega arith),
+      le-ltb 64 (a .h .attributes) (omega arith),
+      le-ltb (a .h .nodes) 1 (omega arith),
+      le-ltb 64 (a .h .nodes) (omega arith),
+      le-ltb 272 (a .h .grants) (omega arith),
+    )
+    (last-is _ _ (c .user-bad .ensures))
 
 pub counts-bad-spec : {M : Type 1} → statement M
 counts-bad-spec =

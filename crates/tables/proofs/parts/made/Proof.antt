@@ -16,9 +16,9 @@ result-requires : tie.Need-result-requires
 result-requires c κs = search needs
 
 returns : tie.Need-returns
-returns c tied other both =
+returns c N tied other both =
     let b = c .before .before in
-    rw (← b .before .shown .ensures tied, ← b .shown2 .ensures other, ← c .before .visible-after .ensures) (c .result .ensures both)
+    rw (← b .before .shown .ensures tied, ← b .shown2 .ensures other, ← c .before .visible-after .ensures) (c .result .ensures N both)
 
 pub made-spec : {M : Type 1} → statement M
 made-spec =

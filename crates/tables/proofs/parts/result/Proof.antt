@@ -28,10 +28,10 @@ union-requires-2 : tie.Need-union-requires-2
 union-requires-2 c κs = search needs
 
 returns : tie.Need-returns
-returns c tied =
+returns c N tied =
     let b = c .before .before .before .before in
     let a = b .before .before .before .args in
-    result-made (a .v) (a .after) (withTied (a .t) tied)
+    result-made N (a .v) (a .after) (withTied (a .t) tied)
     (b .before .before .tests .ensures)
     (b .before .meet .ensures)
     (b .meet2 .ensures)

@@ -69,7 +69,7 @@ use Rattle.writing.proofs.lent.write_lent as self
 use Rattle.writing.proofs.lent.write_lent.Statement as stated
 use Rattle.writing.proofs.lent.write_lent.Code as code
 
--- the arrays' types, their machine values, and the slot of the prices
+-- the arrays' types, their machine values, and the slots of the pairs and of the prices
 abbrev Relations : RattleType
 Relations = Array R.the-row mostRelations
 
@@ -88,11 +88,14 @@ grantVals = array-vals (LL.vals G.the-type G′.the-laws)
 abbrev nodeVals : List Node → List Val
 nodeVals = array-vals (LL.vals N.the-type N′.the-laws)
 
+abbrev pairsAt : Slot 2
+pairsAt = shrSliceOf (0 ∷ []) tt (plain (λ _. u8))
+
 abbrev pricesAt : Slot 2
 pricesAt = shrSliceOf (0 ∷ []) tt (plain (λ _. u32))
 
 abbrev stayed : Stays (self.ended .signature .params) (self.ended .kept)
-stayed = (stay-dropped (plain (λ _. K.the-row)) yes, (stay-dropped (plain (λ _. Relations)) yes, (stay-dropped (plain (λ _. usize)) yes, (stay-dropped (plain (λ _. Grants)) yes, (stay-dropped (plain (λ _. usize)) yes, (stay-dropped (plain (λ _. Nodes)) yes, (stay-dropped (plain (λ _. usize)) yes, (stay-dropped pricesAt yes, (stay-dropped pricesAt yes, (gave-slice (1 ∷ []) tt (plain (λ _. u8)), tt))))))))))
+stayed = (stay-dropped (plain (λ _. K.the-row)) yes, (stay-dropped (plain (λ _. Relations)) yes, (stay-dropped (plain (λ _. usize)) yes, (stay-dropped (plain (λ _. Grants)) yes, (stay-dropped (plain (λ _. usize)) yes, (stay-dropped (plain (λ _. Nodes)) yes, (stay-dropped (plain (λ _. usize)) yes, (stay-dropped pairsAt yes, (stay-dropped pricesAt yes, (stay-dropped pricesAt yes, (gave-slice (1 ∷ []) tt (plain (λ _. u8)), tt)))))))))))
 
 module _ {M : Type 1} (𝓤 : URA M) (H : Heap 𝓤) (A : Atoms 𝓤) (mem : Memory → SProp 𝓤) (run : Routine → Fun 𝓤) where
   -- the contract that the proof cites
@@ -107,17 +110,17 @@ abbrev Fine : Ty → Val → Type 0
 Fine t u = Holds (hasTy t u) × WT u
 
 module _ {M : Type 1} (𝓤 : URA M) (H : Heap 𝓤) (A : Atoms 𝓤) (W : Given 𝓤 H A) (mem : Memory → SProp 𝓤) (run : Routine → Fun 𝓤) (κp κr : Lft) (qp qr : Share)
-    (h : Header) (rs : List Relation) (r : ℕ) (gs : List Grant) (g : ℕ) (ns : List Node) (n : ℕ) (ss ls : RefT (List ℕ)) (x : RefT (List ℕ)) where
+    (h : Header) (rs : List Relation) (r : ℕ) (gs : List Grant) (g : ℕ) (ns : List Node) (n : ℕ) (ps ss ls : RefT (List ℕ)) (x : RefT (List ℕ)) where
   -- the values that are written
   abbrev values : Values
-  values = record { header = h; relations = take r rs; grants = take g gs; nodes = take n ns; stepPrices = now ss; linkPrices = now ls }
+  values = record { header = h; relations = take r rs; grants = take g gs; nodes = take n ns; pairs = now ps; stepPrices = now ss; linkPrices = now ls }
 
   -- the arguments, and their machine values
   abbrev a : Args self.signature (κp, (κr, tt))
-  a = (h, (rs, (r, (gs, (g, (ns, (n, (ss, (ls, (x, tt))))))))))
+  a = (h, (rs, (r, (gs, (g, (ns, (n, (ps, (ss, (ls, (x, tt)))))))))))
 
   abbrev at : Vals self.signature (κp, (κr, tt))
-  at = (K′.lowered h ∷ [], (relationVals rs, (vint w64 r ∷ [], (grantVals gs, (vint w64 g ∷ [], (nodeVals ns, (vint w64 n ∷ [], (v ss ∷ [], (v ls ∷ [], (v x ∷ [], tt))))))))))
+  at = (K′.lowered h ∷ [], (relationVals rs, (vint w64 r ∷ [], (grantVals gs, (vint w64 g ∷ [], (nodeVals ns, (vint w64 n ∷ [], (v ps ∷ [], (v ss ∷ [], (v ls ∷ [], (v x ∷ [], tt)))))))))))
 
   abbrev rv : Val
   rv = only (relationVals rs)
@@ -142,6 +145,9 @@ module _ {M : Type 1} (𝓤 : URA M) (H : Heap 𝓤) (A : Atoms 𝓤) (W : Given
   abbrev OwnH : Fml
   OwnH = K.the-row .own h (K′.lowered h ∷ [])
 
+  abbrev Pairs : Fml
+  Pairs = ShrSlice (named 0) κp u8 .own ps (v ps ∷ [])
+
   abbrev Prices : RefT (List ℕ) → Fml
   Prices s = ShrSlice (named 0) κp u32 .own s (v s ∷ [])
 
@@ -159,115 +165,115 @@ module _ {M : Type 1} (𝓤 : URA M) (H : Heap 𝓤) (A : Atoms 𝓤) (W : Given
   -- the call of `write`, for α, on the fronts of the locals l, l′ and l″: what it is passed and asks
   module _ (α l l′ l″ : ℕ) (γ γ′ γ″ : GName) where
     abbrev b : Args write.signature (α ∷ [], (κp, (κr, tt)))
-    b = (h, (Lent.front R.the-row rs r l γ, (Lent.front G.the-row gs g l′ γ′, (Lent.front N.the-row ns n l″ γ″, (ss, (ls, (x, tt)))))))
+    b = (h, (Lent.front R.the-row rs r l γ, (Lent.front G.the-row gs g l′ γ′, (Lent.front N.the-row ns n l″ γ″, (ps, (ss, (ls, (x, tt))))))))
 
     abbrev to-write : Write 𝓤 H A mem run .Ghost
-    to-write = (((α ∷ [], (κp, (κr, tt))), (fullShare, (qp, (qr, tt))), tt, b, (K′.lowered h ∷ [], (sliceVal (l, 0) r ∷ [], (sliceVal (l′, 0) g ∷ [], (sliceVal (l″, 0) n ∷ [], (v ss ∷ [], (v ls ∷ [], (v x ∷ [], tt)))))))), tt)
+    to-write = (((α ∷ [], (κp, (κr, tt))), (fullShare, (qp, (qr, tt))), tt, b, (K′.lowered h ∷ [], (sliceVal (l, 0) r ∷ [], (sliceVal (l′, 0) g ∷ [], (sliceVal (l″, 0) n ∷ [], (v ps ∷ [], (v ss ∷ [], (v ls ∷ [], (v x ∷ [], tt))))))))), tt)
 
     abbrev Asked : List (Item 𝓤)
-    Asked = WithNew α ∷ ‵ OwnH ∷ ‵ (Front α R.the-row rs r l γ) ∷ ‵ (Front α G.the-row gs g l′ γ′) ∷ ‵ (Front α N.the-row ns n l″ γ″) ∷ ‵ (Prices ss) ∷ ‵ (Prices ls) ∷ ‵ OwnX ∷ []
+    Asked = WithNew α ∷ ‵ OwnH ∷ ‵ (Front α R.the-row rs r l γ) ∷ ‵ (Front α G.the-row gs g l′ γ′) ∷ ‵ (Front α N.the-row ns n l″ γ″) ∷ ‵ Pairs ∷ ‵ (Prices ss) ∷ ‵ (Prices ls) ∷ ‵ OwnX ∷ []
 
     goes-write : ent 𝓤 (⋆ 𝓤 H A Asked) (Write 𝓤 H A mem run .pre to-write)
     goes-write =
         qed W Asked ∵
         -- from the last parameter to the first, each in front of those after it
-        nothing ! $ move ! (8 ∷ 0 ∷ []) $ fjoin ! $ move ! (7 ∷ 0 ∷ []) $ fjoin ! $ move ! (6 ∷ 0 ∷ []) $ fjoin ! $ move ! (5 ∷ 0 ∷ []) $ fjoin ! $ move ! (4 ∷ 0 ∷ []) $ fjoin ! $ move ! (3 ∷ 0 ∷ []) $ fjoin ! $ move ! (2 ∷ 0 ∷ []) $ fjoin ! $
+        nothing ! $ move ! (9 ∷ 0 ∷ []) $ fjoin ! $ move ! (8 ∷ 0 ∷ []) $ fjoin ! $ move ! (7 ∷ 0 ∷ []) $ fjoin ! $ move ! (6 ∷ 0 ∷ []) $ fjoin ! $ move ! (5 ∷ 0 ∷ []) $ fjoin ! $ move ! (4 ∷ 0 ∷ []) $ fjoin ! $ move ! (3 ∷ 0 ∷ []) $ fjoin ! $ move ! (2 ∷ 0 ∷ []) $ fjoin ! $
         move ! (1 ∷ 0 ∷ []) $ join ! $ frame ! $ nothing ! $ done !
 
   exits : (w : Written) (u : Val) (zs : List ℕ) → Says w zs → length zs ≡ length (now x) → ent 𝓤 (⋆ 𝓤 H A (Tokens ∷ ‵ (S.the-row .own w (u ∷ [])) ∷ ‵ (finally u8 (x .name) zs) ∷ [])) (Post u)
   exits w u zs e l =
       qed W (Tokens ∷ ‵ (S.the-row .own w (u ∷ [])) ∷ ‵ (finally u8 (x .name) zs) ∷ []) ∵
-      suffices ! _ (ends-at 𝓤 H A self.ended stayed (self.clauses 𝓤 H A mem run) W (((κp, (κr, tt)), (qp, (qr, tt)), tt, a, at), tt) u w (tt, (tt, (tt, (tt, (tt, (tt, (tt, (tt, (tt, (zs, tt)))))))))) (tt, (tt, (tt, (tt, (tt, (tt, (tt, (tt, (tt, (l, tt))))))))))) $ says ! e $ frame ! $
-      -- [the answer; the last list]: of the nine others nothing is had
-      nothing ! $ move ! (2 ∷ 0 ∷ []) $ fjoin ! $ nothing ! $ fjoin ! $ nothing ! $ fjoin ! $ nothing ! $ fjoin ! $ nothing ! $ fjoin ! $ nothing ! $ fjoin ! $ nothing ! $ fjoin ! $ nothing ! $ fjoin ! $ nothing ! $ fjoin ! $ nothing ! $ fjoin ! $ done !
+      suffices ! _ (ends-at 𝓤 H A self.ended stayed (self.clauses 𝓤 H A mem run) W (((κp, (κr, tt)), (qp, (qr, tt)), tt, a, at), tt) u w (tt, (tt, (tt, (tt, (tt, (tt, (tt, (tt, (tt, (tt, (zs, tt))))))))))) (tt, (tt, (tt, (tt, (tt, (tt, (tt, (tt, (tt, (tt, (l, tt)))))))))))) $ says ! e $ frame ! $
+      -- [the answer; the last list]: of the ten others nothing is had
+      nothing ! $ move ! (2 ∷ 0 ∷ []) $ fjoin ! $ nothing ! $ fjoin ! $ nothing ! $ fjoin ! $ nothing ! $ fjoin ! $ nothing ! $ fjoin ! $ nothing ! $ fjoin ! $ nothing ! $ fjoin ! $ nothing ! $ fjoin ! $ nothing ! $ fjoin ! $ nothing ! $ fjoin ! $ nothing ! $ fjoin ! $ done !
 
   module _ (C : Calls 𝓤 H) (Λ : Loops 𝓤 H) (fm : FmC 𝓤 H (W .laws) C) (known : Triple 𝓤 (C #writing·write) (Write 𝓤 H A mem run)) (lenr : length rs ≡ mostRelations) (leng : length gs ≡ mostGrants) (lenn : length ns ≡ mostNodes)
       (withinr : r ≤ mostRelations) (withing : g ≤ mostGrants) (withinn : n ≤ mostNodes) where
     walk : Fine K′.mir (K′.lowered h) → Fine (Lent.arrayTy R.the-row mostRelations) rv → r < 2 ^ 64 → Fine (Lent.arrayTy G.the-row mostGrants) gv → g < 2 ^ 64 → Fine (Lent.arrayTy N.the-row mostNodes) nv → n < 2 ^ 64
-        → Room u32 (length (now ss)) → Room u32 (length (now ls)) → Room u8 (length (now x))
-        → ent 𝓤 (onEntry 𝓤 H A self.signature (κp, (κr, tt)) (qp, (qr, tt)) a at) (WpFn 𝓤 H C Λ code.function (K′.lowered h ∷ rv ∷ vint w64 r ∷ gv ∷ vint w64 g ∷ nv ∷ vint w64 n ∷ v ss ∷ v ls ∷ v x ∷ []) Post)
-    walk wh wr okr wg okg wn okn oks okl okx =
-        qed W (Tokens ∷ ‵ (owns (K.the-row ∷ Relations ∷ usize ∷ Grants ∷ usize ∷ Nodes ∷ usize ∷ ShrSlice (named 0) κp u32 ∷ ShrSlice (named 0) κp u32 ∷ MutSlice (named 1) κr u8 ∷ []) a at) ∷ []) ∵
+        → Room u8 (length (now ps)) → Room u32 (length (now ss)) → Room u32 (length (now ls)) → Room u8 (length (now x))
+        → ent 𝓤 (onEntry 𝓤 H A self.signature (κp, (κr, tt)) (qp, (qr, tt)) a at) (WpFn 𝓤 H C Λ code.function (K′.lowered h ∷ rv ∷ vint w64 r ∷ gv ∷ vint w64 g ∷ nv ∷ vint w64 n ∷ v ps ∷ v ss ∷ v ls ∷ v x ∷ []) Post)
+    walk wh wr okr wg okg wn okn okp oks okl okx =
+        qed W (Tokens ∷ ‵ (owns (K.the-row ∷ Relations ∷ usize ∷ Grants ∷ usize ∷ Nodes ∷ usize ∷ ShrSlice (named 0) κp u8 ∷ ShrSlice (named 0) κp u32 ∷ ShrSlice (named 0) κp u32 ∷ MutSlice (named 1) κr u8 ∷ []) a at) ∷ []) ∵
         -- what there is on entry, apart
-        move ! (1 ∷ []) $ fsplit ! $ move ! (1 ∷ []) $ fsplit ! $ move ! (1 ∷ []) $ fsplit ! $ move ! (1 ∷ []) $ fsplit ! $ move ! (1 ∷ []) $ fsplit ! $ move ! (1 ∷ []) $ fsplit ! $ move ! (1 ∷ []) $ fsplit ! $ move ! (1 ∷ []) $ fsplit ! $ move ! (1 ∷ []) $ fsplit ! $ move ! (1 ∷ []) $ fsplit ! $
-        -- [the room; true; links; steps; n; nodes; g; grants; r; relations; the header; the tokens of 'p and 'r]
-        keep ! (9 ∷ 7 ∷ 5 ∷ 11 ∷ 10 ∷ 3 ∷ 2 ∷ 0 ∷ []) $
-        enter ! C Λ code.function (K′.lowered h ∷ rv ∷ vint w64 r ∷ gv ∷ vint w64 g ∷ nv ∷ vint w64 n ∷ v ss ∷ v ls ∷ v x ∷ []) _ $
-        alloc1 ! (λ l₀. alloc1 ! (λ l₁. alloc1 ! (λ l₂. alloc1 ! (λ l₃. alloc1 ! (λ l₄. alloc1 ! (λ l₅. alloc1 ! (λ l₆. alloc1 ! (λ l₇. alloc1 ! (λ l₈. alloc1 ! (λ l₉. alloc1 ! (λ l₁₀. alloc1 ! (λ l₁₁. alloc1 ! (λ l₁₂. alloc1 ! (λ l₁₃. alloc1 ! (λ l₁₄. alloc1 ! (λ l₁₅. alloc1 ! (λ l₁₆. alloc1 ! (λ l₁₇. alloc1 ! (λ l₁₈. alloc1 ! (λ l₁₉. alloc1 ! (λ l₂₀. alloc1 ! (λ l₂₁. alloc0 ! $ params1 ! $
-        pass1 ! (init ! 40 refl wh) $ pass1 ! (init ! 38 refl wr) $ pass1 ! (init ! 36 refl (tt, record { fits = okr })) $ pass1 ! (init ! 34 refl wg) $ pass1 ! (init ! 32 refl (tt, record { fits = okg })) $ pass1 ! (init ! 30 refl wn) $ pass1 ! (init ! 28 refl (tt, record { fits = okn })) $
-        pass1 ! (init ! 26 refl (tt, (tt, (record { fits = oks .0 }, tt)))) $ pass1 ! (init ! 24 refl (tt, (tt, (record { fits = okl .0 }, tt)))) $ pass1 ! (init ! 22 refl (tt, (tt, (record { fits = okx .0 }, tt)))) $ pass0 ! $
-        -- [_21; …; _20; …; .. _1; …; room for _0; …; relations (44); grants (45); nodes (46); the tokens of 'p and 'r (47); the header (48); steps (49); links (50); the room (51)]
+        move ! (1 ∷ []) $ fsplit ! $ move ! (1 ∷ []) $ fsplit ! $ move ! (1 ∷ []) $ fsplit ! $ move ! (1 ∷ []) $ fsplit ! $ move ! (1 ∷ []) $ fsplit ! $ move ! (1 ∷ []) $ fsplit ! $ move ! (1 ∷ []) $ fsplit ! $ move ! (1 ∷ []) $ fsplit ! $ move ! (1 ∷ []) $ fsplit ! $ move ! (1 ∷ []) $ fsplit ! $ move ! (1 ∷ []) $ fsplit ! $
+        -- [the room; true; links; steps; pairs; n; nodes; g; grants; r; relations; the header; the tokens of 'p and 'r]
+        keep ! (10 ∷ 8 ∷ 6 ∷ 12 ∷ 11 ∷ 4 ∷ 3 ∷ 2 ∷ 0 ∷ []) $
+        enter ! C Λ code.function (K′.lowered h ∷ rv ∷ vint w64 r ∷ gv ∷ vint w64 g ∷ nv ∷ vint w64 n ∷ v ps ∷ v ss ∷ v ls ∷ v x ∷ []) _ $
+        alloc1 ! (λ l₀. alloc1 ! (λ l₁. alloc1 ! (λ l₂. alloc1 ! (λ l₃. alloc1 ! (λ l₄. alloc1 ! (λ l₅. alloc1 ! (λ l₆. alloc1 ! (λ l₇. alloc1 ! (λ l₈. alloc1 ! (λ l₉. alloc1 ! (λ l₁₀. alloc1 ! (λ l₁₁. alloc1 ! (λ l₁₂. alloc1 ! (λ l₁₃. alloc1 ! (λ l₁₄. alloc1 ! (λ l₁₅. alloc1 ! (λ l₁₆. alloc1 ! (λ l₁₇. alloc1 ! (λ l₁₈. alloc1 ! (λ l₁₉. alloc1 ! (λ l₂₀. alloc1 ! (λ l₂₁. alloc1 ! (λ l₂₂. alloc0 ! $ params1 ! $
+        pass1 ! (init ! 42 refl wh) $ pass1 ! (init ! 40 refl wr) $ pass1 ! (init ! 38 refl (tt, record { fits = okr })) $ pass1 ! (init ! 36 refl wg) $ pass1 ! (init ! 34 refl (tt, record { fits = okg })) $ pass1 ! (init ! 32 refl wn) $ pass1 ! (init ! 30 refl (tt, record { fits = okn })) $
+        pass1 ! (init ! 28 refl (tt, (tt, (record { fits = okp .0 }, tt)))) $ pass1 ! (init ! 26 refl (tt, (tt, (record { fits = oks .0 }, tt)))) $ pass1 ! (init ! 24 refl (tt, (tt, (record { fits = okl .0 }, tt)))) $ pass1 ! (init ! 22 refl (tt, (tt, (record { fits = okx .0 }, tt)))) $ pass0 ! $
+        -- [_22; …; _21; …; .. _1; …; room for _0; …; relations (46); grants (47); nodes (48); the tokens of 'p and 'r (49); the header (50); pairs (51); steps (52); links (53); the room (54)]
         -- the arrays are copied into memory, and the three slices made
-        assigns ! (of-opd ! (load ! (from ! (stop !)) (look ! 38 refl))) (from ! (stop !)) (init ! 20 refl wr) $
-        assigns ! (of-opd ! (load ! (from ! (stop !)) (look ! 34 refl))) (from ! (stop !)) (init ! 18 refl wg) $
-        assigns ! (of-opd ! (load ! (from ! (stop !)) (look ! 30 refl))) (from ! (stop !)) (init ! 16 refl wn) $
+        assigns ! (of-opd ! (load ! (from ! (stop !)) (look ! 40 refl))) (from ! (stop !)) (init ! 20 refl wr) $
+        assigns ! (of-opd ! (load ! (from ! (stop !)) (look ! 36 refl))) (from ! (stop !)) (init ! 18 refl wg) $
+        assigns ! (of-opd ! (load ! (from ! (stop !)) (look ! 32 refl))) (from ! (stop !)) (init ! 16 refl wn) $
         assigns ! (addr ! (from ! (stop !))) (from ! (stop !)) (init ! 14 refl (tt, tt)) $
-        assigns ! (agg ! (and-then ! (load ! (from ! (stop !)) (look ! 14 refl)) (and-then ! (load ! (from ! (stop !)) (look ! 36 refl)) (no-more !)))) (from ! (stop !)) (init ! 12 refl (tt, (tt, (record { fits = okr }, tt)))) $
+        assigns ! (agg ! (and-then ! (load ! (from ! (stop !)) (look ! 14 refl)) (and-then ! (load ! (from ! (stop !)) (look ! 38 refl)) (no-more !)))) (from ! (stop !)) (init ! 12 refl (tt, (tt, (record { fits = okr }, tt)))) $
         assigns ! (addr ! (from ! (stop !))) (from ! (stop !)) (init ! 10 refl (tt, tt)) $
-        assigns ! (agg ! (and-then ! (load ! (from ! (stop !)) (look ! 10 refl)) (and-then ! (load ! (from ! (stop !)) (look ! 32 refl)) (no-more !)))) (from ! (stop !)) (init ! 8 refl (tt, (tt, (record { fits = okg }, tt)))) $
+        assigns ! (agg ! (and-then ! (load ! (from ! (stop !)) (look ! 10 refl)) (and-then ! (load ! (from ! (stop !)) (look ! 34 refl)) (no-more !)))) (from ! (stop !)) (init ! 8 refl (tt, (tt, (record { fits = okg }, tt)))) $
         assigns ! (addr ! (from ! (stop !))) (from ! (stop !)) (init ! 6 refl (tt, tt)) $
-        assigns ! (agg ! (and-then ! (load ! (from ! (stop !)) (look ! 6 refl)) (and-then ! (load ! (from ! (stop !)) (look ! 28 refl)) (no-more !)))) (from ! (stop !)) (init ! 4 refl (tt, (tt, (record { fits = okn }, tt)))) $
+        assigns ! (agg ! (and-then ! (load ! (from ! (stop !)) (look ! 6 refl)) (and-then ! (load ! (from ! (stop !)) (look ! 30 refl)) (no-more !)))) (from ! (stop !)) (init ! 4 refl (tt, (tt, (record { fits = okn }, tt)))) $
         -- and the room lent on
         assigns ! (addr ! (from ! (fld ! refl (hop ! (look-in ! 22 (sub ! 0 refl (whole !))) (stop !))))) (from ! (stop !)) (init ! 2 refl (tt, tt)) $
         assigns ! (agg ! (and-then ! (load ! (from ! (stop !)) (look ! 2 refl)) (and-then ! (load ! (from ! (fld ! refl (stop !))) (look-in ! 22 (sub ! 1 refl (whole !)))) (no-more !)))) (from ! (stop !)) (init ! 0 refl (tt, (tt, (record { fits = okx .0 }, tt)))) $
         -- a lifetime, and for it the front of each array: of the local in memory only its end stays
         lft-new ! tt (λ α.
-        move ! (21 ∷ 45 ∷ []) $ use2 W (later (some (λ (γ : GName). ‵ (Front α R.the-row rs r l₁₁ γ) ⊛ ‵ (Lent.Kept R.the-row rs r l₁₁ (α ∷ [])))))
-        (Lent.lends-front 𝓤 H A W R.the-row tt mostRelations rs lenr l₁₁ r (α ∷ []) rv (named 0) (lit< tt, lit< tt) withinr) $ await ! tt $ pick ! (λ γ. split ! $
-        -- [the slice; what is kept; α's token; _21 (3); …; .. _12 (21); …; _11's end; _10 (24); …; .. _0 (44); …; grants (46); nodes (47); ..]
-        move ! (21 ∷ 46 ∷ []) $ use2 W (later (some (λ (γ : GName). ‵ (Front α G.the-row gs g l₁₂ γ) ⊛ ‵ (Lent.Kept G.the-row gs g l₁₂ (α ∷ [])))))
-        (Lent.lends-front 𝓤 H A W G.the-row tt mostGrants gs leng l₁₂ g (α ∷ []) gv (named 0) (lit< tt, lit< tt) withing) $ await ! tt $ pick ! (λ γ′. split ! $
-        -- [the grants' slice; what is kept; the relations'; what is kept; α's token; _21 (5); …; .. _13 (21); …; _12's end; _11's end; _10 (25); …; .. _0 (45); …; nodes (47); ..]
-        move ! (21 ∷ 47 ∷ []) $ use2 W (later (some (λ (γ : GName). ‵ (Front α N.the-row ns n l₁₃ γ) ⊛ ‵ (Lent.Kept N.the-row ns n l₁₃ (α ∷ [])))))
-        (Lent.lends-front 𝓤 H A W N.the-row tt mostNodes ns lenn l₁₃ n (α ∷ []) nv (named 0) (lit< tt, lit< tt) withinn) $ await ! tt $ pick ! (λ γ″. split ! $
-        -- [the nodes' slice; what is kept; the grants'; what is kept; the relations'; what is kept; α's token (6); _21 (7); …; .. _13's end; _12's end; _11's end; _10 (26); …; .. _0 (46); …; the tokens of 'p and 'r (48); the header (49); steps (50); links (51); the room (52)]
-        move ! (6 ∷ 48 ∷ []) $ join ! $ move ! (0 ∷ 48 ∷ 5 ∷ 3 ∷ 1 ∷ 49 ∷ 50 ∷ 51 ∷ []) $ group ! 8 $ use1 W (raw (Write 𝓤 H A mem run .pre (to-write α l₁₁ l₁₂ l₁₃ γ γ′ γ″))) (goes-write α l₁₁ l₁₂ l₁₃ γ γ′ γ″) $
-        -- [pre; what is kept of the nodes, the grants and the relations; _21 (4); …; .. _14 (18); …; _13's end (20); _12's end; _11's end; _10 (23); …; .. room for _0 (43); …]
-        calls-at ! fm (Write 𝓤 H A mem run) known (to-write α l₁₁ l₁₂ l₁₃ γ γ′ γ″)
-        (and-then ! (load ! (from ! (stop !)) (look ! 41 refl)) (and-then ! (load ! (from ! (stop !)) (look ! 16 refl)) (and-then ! (load ! (from ! (stop !)) (look ! 12 refl)) (and-then ! (load ! (from ! (stop !)) (look ! 8 refl))
-        (and-then ! (load ! (from ! (stop !)) (look ! 27 refl)) (and-then ! (load ! (from ! (stop !)) (look ! 25 refl)) (and-then ! (load ! (from ! (stop !)) (look ! 4 refl)) (no-more !)))))))) (λ u.
-        use1 W (later (some (λ (w : Written). (WithNew α ⊛ ‵ (S.the-row .own w (u ∷ []))) ⊛ raw (ensured 𝓤 H A write.ended (write.clauses 𝓤 H A mem run) (α ∷ [], (κp, (κr, tt))) (b α l₁₁ l₁₂ l₁₃ γ γ′ γ″) tt w)))) (id⊢ 𝓤 _) $ await ! tt $ pick ! (λ w.
-        split ! $ move ! (1 ∷ []) $ use1 W (some (λ (zs : Lasts write.ended (α ∷ [], (κp, (κr, tt))) (b α l₁₁ l₁₂ l₁₃ γ γ′ γ″)). ‵ (lasts write.ended (α ∷ [], (κp, (κr, tt))) (b α l₁₁ l₁₂ l₁₃ γ γ′ γ″) zs) ⊛ raw (fact 𝓤 (Says w (zs .1 .1 .1 .1 .1 .1 .0))))) (id⊢ 𝓤 _) $ pick ! (λ zs.
-        split ! $ move ! (1 ∷ []) $ heard ! (Says w (zs .1 .1 .1 .1 .1 .1 .0)) (λ e.
-        fsplit ! $ drop ! $ fsplit ! $ drop ! $ fsplit ! $ drop ! $ fsplit ! $ drop ! $ fsplit ! $ drop ! $ fsplit ! $ drop ! $ fsplit ! $ fsplit ! $ move ! (2 ∷ []) $ drop ! $ move ! (1 ∷ []) $ feqL ! (λ l.
-        -- [the last list; the tokens and the answer; what is kept of the nodes, the grants and the relations; _21 (5); …]
+        move ! (21 ∷ 47 ∷ []) $ use2 W (later (some (λ (γ : GName). ‵ (Front α R.the-row rs r l₁₂ γ) ⊛ ‵ (Lent.Kept R.the-row rs r l₁₂ (α ∷ [])))))
+        (Lent.lends-front 𝓤 H A W R.the-row tt mostRelations rs lenr l₁₂ r (α ∷ []) rv (named 0) (lit< tt, lit< tt) withinr) $ await ! tt $ pick ! (λ γ. split ! $
+        -- [the slice; what is kept; α's token; _22 (3); …; .. _13 (21); …; _12's end; _11 (24); …; .. _0 (46); …; grants (48); nodes (49); ..]
+        move ! (21 ∷ 48 ∷ []) $ use2 W (later (some (λ (γ : GName). ‵ (Front α G.the-row gs g l₁₃ γ) ⊛ ‵ (Lent.Kept G.the-row gs g l₁₃ (α ∷ [])))))
+        (Lent.lends-front 𝓤 H A W G.the-row tt mostGrants gs leng l₁₃ g (α ∷ []) gv (named 0) (lit< tt, lit< tt) withing) $ await ! tt $ pick ! (λ γ′. split ! $
+        -- [the grants' slice; what is kept; the relations'; what is kept; α's token; _22 (5); …; .. _14 (21); …; _13's end; _12's end; _11 (25); …; .. _0 (47); …; nodes (49); ..]
+        move ! (21 ∷ 49 ∷ []) $ use2 W (later (some (λ (γ : GName). ‵ (Front α N.the-row ns n l₁₄ γ) ⊛ ‵ (Lent.Kept N.the-row ns n l₁₄ (α ∷ [])))))
+        (Lent.lends-front 𝓤 H A W N.the-row tt mostNodes ns lenn l₁₄ n (α ∷ []) nv (named 0) (lit< tt, lit< tt) withinn) $ await ! tt $ pick ! (λ γ″. split ! $
+        -- [the nodes' slice; what is kept; the grants'; what is kept; the relations'; what is kept; α's token (6); _22 (7); …; .. _14's end; _13's end; _12's end; _11 (26); …; .. _0 (48); …; the tokens of 'p and 'r (50); the header (51); pairs (52); steps (53); links (54); the room (55)]
+        move ! (6 ∷ 50 ∷ []) $ join ! $ move ! (0 ∷ 50 ∷ 5 ∷ 3 ∷ 1 ∷ 51 ∷ 52 ∷ 53 ∷ 54 ∷ []) $ group ! 9 $ use1 W (raw (Write 𝓤 H A mem run .pre (to-write α l₁₂ l₁₃ l₁₄ γ γ′ γ″))) (goes-write α l₁₂ l₁₃ l₁₄ γ γ′ γ″) $
+        -- [pre; what is kept of the nodes, the grants and the relations; _22 (4); …; .. _15 (18); …; _14's end (20); _13's end; _12's end; _11 (23); …; .. room for _0 (45); …]
+        calls-at ! fm (Write 𝓤 H A mem run) known (to-write α l₁₂ l₁₃ l₁₄ γ γ′ γ″)
+        (and-then ! (load ! (from ! (stop !)) (look ! 43 refl)) (and-then ! (load ! (from ! (stop !)) (look ! 16 refl)) (and-then ! (load ! (from ! (stop !)) (look ! 12 refl)) (and-then ! (load ! (from ! (stop !)) (look ! 8 refl))
+        (and-then ! (load ! (from ! (stop !)) (look ! 29 refl)) (and-then ! (load ! (from ! (stop !)) (look ! 27 refl)) (and-then ! (load ! (from ! (stop !)) (look ! 25 refl)) (and-then ! (load ! (from ! (stop !)) (look ! 4 refl)) (no-more !))))))))) (λ u.
+        use1 W (later (some (λ (w : Written). (WithNew α ⊛ ‵ (S.the-row .own w (u ∷ []))) ⊛ raw (ensured 𝓤 H A write.ended (write.clauses 𝓤 H A mem run) (α ∷ [], (κp, (κr, tt))) (b α l₁₂ l₁₃ l₁₄ γ γ′ γ″) tt w)))) (id⊢ 𝓤 _) $ await ! tt $ pick ! (λ w.
+        split ! $ move ! (1 ∷ []) $ use1 W (some (λ (zs : Lasts write.ended (α ∷ [], (κp, (κr, tt))) (b α l₁₂ l₁₃ l₁₄ γ γ′ γ″)). ‵ (lasts write.ended (α ∷ [], (κp, (κr, tt))) (b α l₁₂ l₁₃ l₁₄ γ γ′ γ″) zs) ⊛ raw (fact 𝓤 (Says w (zs .1 .1 .1 .1 .1 .1 .1 .0))))) (id⊢ 𝓤 _) $ pick ! (λ zs.
+        split ! $ move ! (1 ∷ []) $ heard ! (Says w (zs .1 .1 .1 .1 .1 .1 .1 .0)) (λ e.
+        fsplit ! $ drop ! $ fsplit ! $ drop ! $ fsplit ! $ drop ! $ fsplit ! $ drop ! $ fsplit ! $ drop ! $ fsplit ! $ drop ! $ fsplit ! $ drop ! $ fsplit ! $ fsplit ! $ move ! (2 ∷ []) $ drop ! $ move ! (1 ∷ []) $ feqL ! (λ l.
+        -- [the last list; the tokens and the answer; what is kept of the nodes, the grants and the relations; _22 (5); …]
         move ! (1 ∷ []) $ split ! $ move ! (1 ∷ []) $
-        -- [the answer; the tokens; the last list; what is kept of the nodes, the grants and the relations; _21 (6); …; .. room for _0 (45); …]
+        -- [the answer; the tokens; the last list; what is kept of the nodes, the grants and the relations; _22 (6); …; .. room for _0 (47); …]
         peeks ! S.the-row (Is S.the-row) (shows 𝓤 H A S.the-row) w (u ∷ []) (λ is.
-        land ! (from ! (stop !)) (init ! 45 refl (EL.lawful S.the-type S′.the-laws 𝓤 H A W tt .typed w _ is .0)) $
+        land ! (from ! (stop !)) (init ! 47 refl (EL.lawful S.the-type S′.the-laws 𝓤 H A W tt .typed w _ is .0)) $
         -- the lifetime ends, and the arrays are the function's again
         move ! (1 ∷ []) $ split ! $ lft-end ! tt $ use1 W (‵ (fdead (α ∷ [])) ⊛ ‵ (fdead (α ∷ []))) (W .lfts .dead-dup (α ∷ [])) $ split ! $ move ! (0 ∷ 5 ∷ []) $
-        use2 W (later (‵ (fat fullShare (Lent.arrayTy N.the-row mostNodes) l₁₃ 0 nv))) (Lent.front-back 𝓤 H A W N.the-row tt mostNodes ns lenn l₁₃ n (α ∷ []) (LL.vals N.the-type N′.the-laws) (LL.tells N.the-type N′.the-laws)) $ await ! tt $
-        -- [_13; α is over; the tokens of 'p and 'r; the answer; the last list; what is kept of the grants and the relations; _21 (7); …]
+        use2 W (later (‵ (fat fullShare (Lent.arrayTy N.the-row mostNodes) l₁₄ 0 nv))) (Lent.front-back 𝓤 H A W N.the-row tt mostNodes ns lenn l₁₄ n (α ∷ []) (LL.vals N.the-type N′.the-laws) (LL.tells N.the-type N′.the-laws)) $ await ! tt $
+        -- [_14; α is over; the tokens of 'p and 'r; the answer; the last list; what is kept of the grants and the relations; _22 (7); …]
         move ! (1 ∷ []) $ use1 W (‵ (fdead (α ∷ [])) ⊛ ‵ (fdead (α ∷ []))) (W .lfts .dead-dup (α ∷ [])) $ split ! $ move ! (0 ∷ 6 ∷ []) $
-        use2 W (later (‵ (fat fullShare (Lent.arrayTy G.the-row mostGrants) l₁₂ 0 gv))) (Lent.front-back 𝓤 H A W G.the-row tt mostGrants gs leng l₁₂ g (α ∷ []) (LL.vals G.the-type G′.the-laws) (LL.tells G.the-type G′.the-laws)) $ await ! tt $
-        -- [_12; α is over; _13; the tokens of 'p and 'r; the answer; the last list; what is kept of the relations; _21 (7); …]
+        use2 W (later (‵ (fat fullShare (Lent.arrayTy G.the-row mostGrants) l₁₃ 0 gv))) (Lent.front-back 𝓤 H A W G.the-row tt mostGrants gs leng l₁₃ g (α ∷ []) (LL.vals G.the-type G′.the-laws) (LL.tells G.the-type G′.the-laws)) $ await ! tt $
+        -- [_13; α is over; _14; the tokens of 'p and 'r; the answer; the last list; what is kept of the relations; _22 (7); …]
         move ! (1 ∷ 6 ∷ []) $
-        use2 W (later (‵ (fat fullShare (Lent.arrayTy R.the-row mostRelations) l₁₁ 0 rv))) (Lent.front-back 𝓤 H A W R.the-row tt mostRelations rs lenr l₁₁ r (α ∷ []) (LL.vals R.the-type R′.the-laws) (LL.tells R.the-type R′.the-laws)) $ await ! tt $
-        -- [_11; _12; _13; the tokens of 'p and 'r; the answer; the last list; _21 (6); …; .. _14 (20); …; _13's end (22); _12's end; _11's end; _10 (25); …; .. _0 (45); …]
-        returns ! (look ! 45 refl) $ forget ! 0 refl $ forget ! 1 refl $ forget ! 2 refl $ forget ! 6 refl $ forget ! 8 refl $ forget ! 10 refl $ forget ! 12 refl $ forget ! 14 refl $ forget ! 16 refl $ forget ! 18 refl $ forget ! 20 refl $ forget ! 25 refl $ forget ! 27 refl $ forget ! 29 refl $ forget ! 31 refl $ forget ! 33 refl $ forget ! 35 refl $ forget ! 37 refl $ forget ! 39 refl $ forget ! 41 refl $ forget ! 43 refl $ forget ! 45 refl $
-        move ! (45 ∷ 46 ∷ []) $ free1 ! $ move ! (43 ∷ 44 ∷ []) $ free1 ! $ move ! (41 ∷ 42 ∷ []) $ free1 ! $ move ! (39 ∷ 40 ∷ []) $ free1 ! $ move ! (37 ∷ 38 ∷ []) $ free1 ! $ move ! (35 ∷ 36 ∷ []) $ free1 ! $ move ! (33 ∷ 34 ∷ []) $ free1 ! $ move ! (31 ∷ 32 ∷ []) $ free1 ! $ move ! (29 ∷ 30 ∷ []) $ free1 ! $ move ! (27 ∷ 28 ∷ []) $ free1 ! $ move ! (25 ∷ 26 ∷ []) $ free1 ! $
+        use2 W (later (‵ (fat fullShare (Lent.arrayTy R.the-row mostRelations) l₁₂ 0 rv))) (Lent.front-back 𝓤 H A W R.the-row tt mostRelations rs lenr l₁₂ r (α ∷ []) (LL.vals R.the-type R′.the-laws) (LL.tells R.the-type R′.the-laws)) $ await ! tt $
+        -- [_12; _13; _14; the tokens of 'p and 'r; the answer; the last list; _22 (6); …; .. _15 (20); …; _14's end (22); _13's end; _12's end; _11 (25); …; .. _0 (47); …]
+        returns ! (look ! 47 refl) $ forget ! 0 refl $ forget ! 1 refl $ forget ! 2 refl $ forget ! 6 refl $ forget ! 8 refl $ forget ! 10 refl $ forget ! 12 refl $ forget ! 14 refl $ forget ! 16 refl $ forget ! 18 refl $ forget ! 20 refl $ forget ! 25 refl $ forget ! 27 refl $ forget ! 29 refl $ forget ! 31 refl $ forget ! 33 refl $ forget ! 35 refl $ forget ! 37 refl $ forget ! 39 refl $ forget ! 41 refl $ forget ! 43 refl $ forget ! 45 refl $ forget ! 47 refl $
+        move ! (47 ∷ 48 ∷ []) $ free1 ! $ move ! (45 ∷ 46 ∷ []) $ free1 ! $ move ! (43 ∷ 44 ∷ []) $ free1 ! $ move ! (41 ∷ 42 ∷ []) $ free1 ! $ move ! (39 ∷ 40 ∷ []) $ free1 ! $ move ! (37 ∷ 38 ∷ []) $ free1 ! $ move ! (35 ∷ 36 ∷ []) $ free1 ! $ move ! (33 ∷ 34 ∷ []) $ free1 ! $ move ! (31 ∷ 32 ∷ []) $ free1 ! $ move ! (29 ∷ 30 ∷ []) $ free1 ! $ move ! (27 ∷ 28 ∷ []) $ free1 ! $ move ! (25 ∷ 26 ∷ []) $ free1 ! $
         move ! (0 ∷ 24 ∷ []) $ free1 ! $ move ! (0 ∷ 22 ∷ []) $ free1 ! $ move ! (0 ∷ 20 ∷ []) $ free1 ! $ move ! (17 ∷ 18 ∷ []) $ free1 ! $ move ! (15 ∷ 16 ∷ []) $ free1 ! $ move ! (13 ∷ 14 ∷ []) $ free1 ! $ move ! (11 ∷ 12 ∷ []) $ free1 ! $ move ! (9 ∷ 10 ∷ []) $ free1 ! $ move ! (7 ∷ 8 ∷ []) $ free1 ! $ move ! (5 ∷ 6 ∷ []) $ free1 ! $ move ! (3 ∷ 4 ∷ []) $ free1 ! $ free0 ! $
-        by ! (exits w u (zs .1 .1 .1 .1 .1 .1 .0) e l)))))))))))))))))))))))))))))))))
+        by ! (exits w u (zs .1 .1 .1 .1 .1 .1 .1 .0) e l))))))))))))))))))))))))))))))))))
 
 module _ {M : Type 1} (𝓤 : URA M) (H : Heap 𝓤) (A : Atoms 𝓤) (W : Given 𝓤 H A) (mem : Memory → SProp 𝓤) (run : Routine → Fun 𝓤) where
   self-walks : (C : Calls 𝓤 H) (Λ : Loops 𝓤 H) → FmC 𝓤 H (W .laws) C → Triple 𝓤 (C #writing·write) (Write 𝓤 H A mem run) → Walks 𝓤 H A self.ended stayed (WpFn 𝓤 H C Λ code.function) (self.clauses 𝓤 H A mem run)
   self-walks C Λ fm known = walked 𝓤 H A self.ended stayed (self.clauses 𝓤 H A mem run) (WpFn 𝓤 H C Λ code.function)
-      (λ κs. (LL.vals K.the-type K′.the-laws, (relationVals, (uint-vals w64, (grantVals, (uint-vals w64, (nodeVals, (uint-vals w64, (slice-vals, (slice-vals, (slice-vals, tt)))))))))))
-      (λ κs. (LL.tells K.the-type K′.the-laws, (array-tells R.the-row (LL.vals R.the-type R′.the-laws) (LL.tells R.the-type R′.the-laws) mostRelations, (uint-tells w64, (array-tells G.the-row (LL.vals G.the-type G′.the-laws) (LL.tells G.the-type G′.the-laws) mostGrants, (uint-tells w64, (array-tells N.the-row (LL.vals N.the-type N′.the-laws) (LL.tells N.the-type N′.the-laws) mostNodes, (uint-tells w64, (shr-slice-tells (named 0) (κs .0) u32, (shr-slice-tells (named 0) (κs .0) u32, (mut-slice-tells (named 1) (κs .1 .0) u8, tt)))))))))))
+      (λ κs. (LL.vals K.the-type K′.the-laws, (relationVals, (uint-vals w64, (grantVals, (uint-vals w64, (nodeVals, (uint-vals w64, (slice-vals, (slice-vals, (slice-vals, (slice-vals, tt))))))))))))
+      (λ κs. (LL.tells K.the-type K′.the-laws, (array-tells R.the-row (LL.vals R.the-type R′.the-laws) (LL.tells R.the-type R′.the-laws) mostRelations, (uint-tells w64, (array-tells G.the-row (LL.vals G.the-type G′.the-laws) (LL.tells G.the-type G′.the-laws) mostGrants, (uint-tells w64, (array-tells N.the-row (LL.vals N.the-type N′.the-laws) (LL.tells N.the-type N′.the-laws) mostNodes, (uint-tells w64, (shr-slice-tells (named 0) (κs .0) u8, (shr-slice-tells (named 0) (κs .0) u32, (shr-slice-tells (named 0) (κs .0) u32, (mut-slice-tells (named 1) (κs .1 .0) u8, tt))))))))))))
       (λ κs qs bounds a g are. needs 𝓤 ((a .1 .1 .0 ≤ mostRelations) × (a .1 .1 .1 .1 .0 ≤ mostGrants) × (a .1 .1 .1 .1 .1 .1 .0 ≤ mostNodes)) _ (λ within.
-      walk 𝓤 H A W mem run (κs .0) (κs .1 .0) (qs .0) (qs .1 .0) (a .0) (a .1 .0) (a .1 .1 .0) (a .1 .1 .1 .0) (a .1 .1 .1 .1 .0) (a .1 .1 .1 .1 .1 .0) (a .1 .1 .1 .1 .1 .1 .0) (a .1 .1 .1 .1 .1 .1 .1 .0) (a .1 .1 .1 .1 .1 .1 .1 .1 .0) (a .1 .1 .1 .1 .1 .1 .1 .1 .1 .0)
+      walk 𝓤 H A W mem run (κs .0) (κs .1 .0) (qs .0) (qs .1 .0) (a .0) (a .1 .0) (a .1 .1 .0) (a .1 .1 .1 .0) (a .1 .1 .1 .1 .0) (a .1 .1 .1 .1 .1 .0) (a .1 .1 .1 .1 .1 .1 .0) (a .1 .1 .1 .1 .1 .1 .1 .0) (a .1 .1 .1 .1 .1 .1 .1 .1 .0) (a .1 .1 .1 .1 .1 .1 .1 .1 .1 .0) (a .1 .1 .1 .1 .1 .1 .1 .1 .1 .1 .0)
       C Λ fm known (are .1 .0 .1 .0 .1) (are .1 .1 .1 .0 .1 .0 .1) (are .1 .1 .1 .1 .1 .0 .1 .0 .1) (within .0) (within .1) (within .2)
       (LL.lawful K.the-type K′.the-laws 𝓤 H A W .typed (a .0) _ (are .0) .0) (array-lawful 𝓤 H A W R.the-row (LL.lawful R.the-type R′.the-laws 𝓤 H A W) mostRelations .typed (a .1 .0) _ (are .1 .0) .0) (are .1 .1 .0 .1)
       (array-lawful 𝓤 H A W G.the-row (LL.lawful G.the-type G′.the-laws 𝓤 H A W) mostGrants .typed (a .1 .1 .1 .0) _ (are .1 .1 .1 .0) .0) (are .1 .1 .1 .1 .0 .1)
       (array-lawful 𝓤 H A W N.the-row (LL.lawful N.the-type N′.the-laws 𝓤 H A W) mostNodes .typed (a .1 .1 .1 .1 .1 .0) _ (are .1 .1 .1 .1 .1 .0) .0) (are .1 .1 .1 .1 .1 .1 .0 .1)
-      (are .1 .1 .1 .1 .1 .1 .1 .0 .0 .1) (are .1 .1 .1 .1 .1 .1 .1 .1 .0 .0 .1) (are .1 .1 .1 .1 .1 .1 .1 .1 .1 .0 .0 .1)))
+      (are .1 .1 .1 .1 .1 .1 .1 .0 .0 .1) (are .1 .1 .1 .1 .1 .1 .1 .1 .0 .0 .1) (are .1 .1 .1 .1 .1 .1 .1 .1 .1 .0 .0 .1) (are .1 .1 .1 .1 .1 .1 .1 .1 .1 .1 .0 .0 .1)))
 
 -- the law of each parameter: of all but the room nothing is said
 all-go : {M : Type 1} (𝓤 : URA M) (H : Heap 𝓤) (A : Atoms 𝓤) (W : Given 𝓤 H A) → AllGo 𝓤 H A W 2 (self.ended .signature .params) (self.ended .kept) stayed
 all-go 𝓤 H A W =
     let dropped : (s : Slot 2) → Silent 𝓤 H A W 2 s yes → Goes 𝓤 H A W 2 s yes (stay-dropped s yes) = λ s silent. goes-dropped 𝓤 H A W 2 s yes silent in
-    (dropped (plain (λ _. K.the-row)) (λ κs x f. refl), (dropped (plain (λ _. Relations)) (λ κs x f. refl), (dropped (plain (λ _. usize)) (λ κs x f. refl), (dropped (plain (λ _. Grants)) (λ κs x f. refl), (dropped (plain (λ _. usize)) (λ κs x f. refl), (dropped (plain (λ _. Nodes)) (λ κs x f. refl), (dropped (plain (λ _. usize)) (λ κs x f. refl), (dropped pricesAt (λ κs x f. refl), (dropped pricesAt (λ κs x f. refl), (goes-gave-slice 𝓤 H A W 2 1 tt (plain (λ _. u8)), tt))))))))))
+    (dropped (plain (λ _. K.the-row)) (λ κs x f. refl), (dropped (plain (λ _. Relations)) (λ κs x f. refl), (dropped (plain (λ _. usize)) (λ κs x f. refl), (dropped (plain (λ _. Grants)) (λ κs x f. refl), (dropped (plain (λ _. usize)) (λ κs x f. refl), (dropped (plain (λ _. Nodes)) (λ κs x f. refl), (dropped (plain (λ _. usize)) (λ κs x f. refl), (dropped pairsAt (λ κs x f. refl), (dropped pricesAt (λ κs x f. refl), (dropped pricesAt (λ κs x f. refl), (goes-gave-slice 𝓤 H A W 2 1 tt (plain (λ _. u8)), tt)))))))))))
 
 self-meets : {M : Type 1} (𝓤 : URA M) (H : Heap 𝓤) (A : Atoms 𝓤) (W : Given 𝓤 H A) (mem : Memory → SProp 𝓤) (run : Routine → Fun 𝓤) (𝓣 : Tables 𝓤 H)
     → Triple 𝓤 (𝓣 .C #writing·write) (Write 𝓤 H A mem run) → Meets 𝓤 H A self.signature (WpFn 𝓤 H (𝓣 .C) (𝓣 .Λ) code.function) (self.spec 𝓤 H A mem run)

@@ -1,0 +1,2 @@
+-- Laws on what is read together.
+mod OneByOne
