@@ -58,6 +58,7 @@ FIGURES = [
     ("7 own grant not all clear though any is", 741, {34: 255, 142: 0}, "refused 7 place 0"),
     # nodes
     ("8 kind 9", 741, {285: 9}, "refused 8 place 0"),
+    ("8 kind 10, with nothing else wrong", 741, {425: 10, 428: 255, 448: 0}, "refused 8 place 5"),
     ("8 child not lower", 741, {314: 1}, "refused 8 place 1"),
     ("8 child missing", 741, {314: 255}, "refused 8 place 1"),
     ("8 children the same", 741, {371: 1}, "refused 8 place 3"),
@@ -213,7 +214,7 @@ HOUSES = [
     ("3 a pair more than counted", {16: 1}, "refused 3 place 0"),
     ("4 user 5 of 5", {15: 5}, "refused 4 place 0"),
     ("5 owner 5 of 5 in version 3", {17: 5}, "refused 5 place 0"),
-    ("8 kind 10", join(kind=10), "refused 8 place 2"),
+    ("8 kind 10 in version 3, with nothing else wrong", {335: 10, 338: 255, 350: 0}, "refused 8 place 4"),
     ("8 no pair named", join(count=0), "refused 8 place 2"),
     ("8 the last pair past the list", join(first=1), "refused 8 place 2"),
     ("8 the first pair past the list", join(first=2, count=1), "refused 8 place 2"),

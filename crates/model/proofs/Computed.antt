@@ -89,11 +89,10 @@ standings =
       tied-sealed = refl;
       pairs-each = refl;
       pair-needed = refl;
-      pair-needed-sealed = refl;
       pair-half = refl;
       last-pair-half = refl;
+      third-pair-half = refl;
       pair-past = refl;
-      pair-before = refl;
       pairs-shared = refl;
     }
 
@@ -125,5 +124,5 @@ small-tests =
       third-passes = refl;
       grown = refl;
       pairs-apart = (refl, refl);
-      pairs-shared = (refl, refl);
+      pairs-visible = (refl, refl);
     }

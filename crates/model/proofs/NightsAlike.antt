@@ -360,5 +360,6 @@ alike-same A B alike =
       holder = holder-same A B alike;
       stuck = λ p i. (stuck-same B A (alike-back A B alike) p i, stuck-same A B alike p i);
       forbidden = λ p i. (forbidden-same A B alike p i, forbidden-same B A (alike-back A B alike) p i);
+      delivery = λ p. (delivery-same A B alike p, delivery-same B A (alike-back A B alike) p);
       clean = λ p. (clean-same A B alike p, clean-same B A (alike-back A B alike) p);
     }

@@ -7,7 +7,7 @@ use Rattle.night.specs.declared.Node.{Node}
 use Rattle.night.specs.Night.{Night, nodeOf}
 use Rattle.night.specs.Kinds.{aJoin, aJoinOnPairs, itsPair}
 use Rattle.run.specs.Keys.{Plan}
-use Rattle.run.specs.Run.{keyOf, holders, Stuck, ForbiddenAt, Clean}
+use Rattle.run.specs.Run.{keyOf, holders, Stuck, ForbiddenAt, DeliveryFails, Clean}
 use Rattle.model.specs.Tables.{tableOf}
 use Rattle.model.specs.Candidates.{candidateSet}
 
@@ -43,7 +43,8 @@ joinedAt N i =
       linkPrices = N .linkPrices;
     }
 
--- both nights have the same tables, candidates, keys and holders, and for every plan the same nodes are stuck or forbidden
+-- both nights have the same tables, candidates, keys and holders, and for every plan the same nodes are stuck or forbidden, and the delivery fails in both or in
+-- neither
 pub record SameAs (N M : Night) : Type 0 where
   pub table : (j : ℕ) → tableOf N j ≡ tableOf M j
   pub candidates : (j : ℕ) → candidateSet N j ≡ candidateSet M j
@@ -51,6 +52,7 @@ pub record SameAs (N M : Night) : Type 0 where
   pub holder : (p : Plan) (a : ℕ) → holders N p a ≡ holders M p a
   pub stuck : (p : Plan) (j : ℕ) → Stuck N p j ↔ Stuck M p j
   pub forbidden : (p : Plan) (j : ℕ) → ForbiddenAt N p j ↔ ForbiddenAt M p j
+  pub delivery : (p : Plan) → DeliveryFails N p ↔ DeliveryFails M p
   pub clean : (p : Plan) → Clean N p ↔ Clean M p
 
 -- a join on one pair may be written as a join of kind 5, whatever the rest of the night is

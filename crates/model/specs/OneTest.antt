@@ -153,8 +153,9 @@ pub record SmallTests : Type 0 where
   pub third-passes : passesBoth (takenBy fiveViews 4) (clearOf fiveViews 3) (sealedOf fiveViews 3) ≡ true
   -- {1, 40} and then {0, 40} make {0, 1, 40}, which 0 sees in clear and 2 sealed
   pub grown : outOf fiveViews (tie (tie untied (these (1 ∷ 40 ∷ []))) (these (0 ∷ 40 ∷ []))) ≡ 26
-  -- two pairs that share no attribute are two tied sets, two that share one are one
+  -- two pairs that share no attribute are two tied sets; all of both operands is visible after the join, the pair that it needs in clear
   pub pairs-apart :
       (getD (tableOf (joinsOn 0 2 0) 2 .tied) 0 0 ≡ these (0 ∷ 3 ∷ [])) × (getD (tableOf (joinsOn 0 2 0) 2 .tied) 4 0 ≡ these (1 ∷ 4 ∷ []))
-  pub pairs-shared :
-      (getD (tableOf (joinsOn 1 2 0) 2 .tied) 4 0 ≡ these (1 ∷ 4 ∷ 5 ∷ [])) × (getD (tableOf (joinsOn 1 2 0) 2 .tied) 5 0 ≡ these (1 ∷ 4 ∷ 5 ∷ []))
+  pub pairs-visible :
+      (tableOf (joinsOn 0 2 (these (0 ∷ 3 ∷ []))) 2 .clear ≡ these (0 ∷ 3 ∷ []))
+      × (tableOf (joinsOn 0 2 (these (0 ∷ 3 ∷ []))) 2 .sealed ≡ these (1 ∷ 2 ∷ 4 ∷ 5 ∷ []))

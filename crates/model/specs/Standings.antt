@@ -117,15 +117,14 @@ pub record Standings : Type 0 where
   -- a tied set of one attribute counts, and lies sealed where that is seen sealed
   pub tied-alone : standing itself 3 (these (0 ∷ [])) 0 ≡ Out 1 3 (these (1 ∷ []))
   pub tied-sealed : standing itself 3 (these (0 ∷ [])) (these (1 ∷ [])) ≡ Candidate
-  -- a join on 0 with 3 and 1 with 4: one pair is seen in clear and the other sealed, and none is needed, or the one, or the other; of the first, or of the
-  -- last, one is seen in clear and one sealed, and just that pair fails
+  -- a join on 0 with 3 and 1 with 4: one pair is seen in clear and the other sealed, and none is needed, or the one in clear; of the first, or of the last,
+  -- or of a third that shares an attribute, one is seen in clear and one sealed, and just that tied set fails
   pub pairs-each : standing (joinsOn 0 2 0) 2 (these (0 ∷ 2 ∷ 3 ∷ 5 ∷ [])) (these (1 ∷ 4 ∷ [])) ≡ Candidate
   pub pair-needed : standing (joinsOn 0 2 (these (0 ∷ 3 ∷ []))) 2 (these (0 ∷ 2 ∷ 3 ∷ 5 ∷ [])) (these (1 ∷ 4 ∷ [])) ≡ Candidate
-  pub pair-needed-sealed : standing (joinsOn 0 2 (these (1 ∷ 4 ∷ []))) 2 (these (0 ∷ 2 ∷ 3 ∷ 5 ∷ [])) (these (1 ∷ 4 ∷ [])) ≡ Out 1 1 (these (1 ∷ []))
   pub pair-half : standing (joinsOn 0 2 0) 2 (these (0 ∷ 1 ∷ 2 ∷ 4 ∷ 5 ∷ [])) (these (3 ∷ [])) ≡ Out 3 3 (these (0 ∷ 3 ∷ []))
   pub last-pair-half : standing (joinsOn 0 2 0) 2 (these (0 ∷ 1 ∷ 2 ∷ 3 ∷ 5 ∷ [])) (these (4 ∷ [])) ≡ Out 3 3 (these (1 ∷ 4 ∷ []))
-  -- a pair past those that the join names, or before them, is not tied
+  pub third-pair-half : standing (joinsOn 0 3 0) 2 (these (0 ∷ 1 ∷ 2 ∷ 3 ∷ 4 ∷ [])) (these (5 ∷ [])) ≡ Out 3 3 (these (1 ∷ 4 ∷ 5 ∷ []))
+  -- a pair past those that the join names is not tied
   pub pair-past : standing (joinsOn 0 1 0) 2 (these (0 ∷ 1 ∷ 2 ∷ 3 ∷ 5 ∷ [])) (these (4 ∷ [])) ≡ Candidate
-  pub pair-before : standing (joinsOn 1 1 0) 2 (these (0 ∷ 1 ∷ 2 ∷ 4 ∷ 5 ∷ [])) (these (3 ∷ [])) ≡ Candidate
   -- 1 with 4 and 1 with 5 are one tied set, though each pair is seen whole
   pub pairs-shared : standing (joinsOn 1 2 0) 2 (these (0 ∷ 1 ∷ 2 ∷ 3 ∷ 4 ∷ [])) (these (1 ∷ 5 ∷ [])) ≡ Out 3 3 (these (1 ∷ 4 ∷ 5 ∷ []))

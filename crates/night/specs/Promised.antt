@@ -1,5 +1,5 @@
--- What reading promises of the night of an accepted file. Planning uses this and nothing else of reading. That unused fields, spare bytes, version and
--- length are as they must be is checked too, and left out here, since no step of planning looks at them.
+-- What reading promises of the night of an accepted file. Planning uses this and nothing else of reading. That the kind is one of the version's, that
+-- unused fields and spare bytes, the pairs named, version and length are as they must be is checked too, and left out here, since no proof rests on it.
 use Prim.Native.Nat.{ℕ, _+_, _<_, _≤_}
 use mathlib.Core.Path.{_≡_}
 use mathlib.Core.Bool.{true}

@@ -73,7 +73,7 @@ pub fn last_kind(version: u16) -> u8
     8
 }
 
-// The length of a node in the versions without pairs, as long as those with pairs have the same.
+// The length of what every version has of a node: all but the pairs that it names.
 pub const NODE_START: usize = 28;
 
 // Lengths of the other records.

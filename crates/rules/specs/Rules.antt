@@ -122,7 +122,7 @@ stepBad v left right = anyOf (xBad v left ∷ yBad v left right ∷ setBad v lef
 unfoldable pub pairBad : Pair → ℕ → ℕ → Bool
 pairBad q left right = anyOf (not (member left (q .left)) ∷ not (member right (q .right)) ∷ [])
 
--- 9: so of one of the pairs that kind 9 names
+-- 9: a pair that kind 9 names has such an attribute
 unfoldable pub pairsBad : Night → Node → ℕ → ℕ → Bool
 pairsBad N v left right = if usesPairs (v .kind) then somewhere (λ k. pairBad (itsPair N v k) left right) (v .count) else false
 

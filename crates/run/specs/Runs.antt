@@ -134,6 +134,10 @@ apartPairs = record { left = 0; right = 2 } ∷ record { left = 1; right = 3 } �
 abbrev pub sharedPairs : List Pair
 sharedPairs = record { left = 0; right = 2 } ∷ record { left = 0; right = 3 } ∷ []
 
+-- three, of which the first two are the same
+abbrev pub threePairs : List Pair
+threePairs = record { left = 0; right = 2 } ∷ apartPairs
+
 -- leaves of {0, 1} and {2, 3}, and such a join
 abbrev pub pairsJoined : ℕ → ℕ → ℕ → List Node
 pairsJoined first count needed = leaf 0 3 ∷ leaf 1 12 ∷ joinOn first count needed ∷ []
@@ -210,6 +214,9 @@ pub record Runs : Type 0 where
   pub user-holds : holders (userSees 3 0 two) (plan [] [] (1 ∷ [])) 0 ≡ 3
   pub user-holds-last : holders (userSees 3 0 two) (plan [] [] (0 ∷ 1 ∷ [])) 0 ≡ 3
   pub user-holds-own : holders (userSees 3 0 two) (plan (0 ∷ 1 ∷ []) [] (1 ∷ [])) 0 ≡ 3
+  -- in version 3 too, who is asked as in version 2
+  pub user-holds-pairs : holders (seenIn 3 1 1 3 0 two) (plan [] [] (1 ∷ [])) 0 ≡ 3
+  pub user-clear-pairs : Unclean (seenIn 3 1 1 2 1 two) (plan [] [] [])
   pub user-clear-holds : holders (userSees 3 0 two) (plan [] (0 ∷ 1 ∷ []) (1 ∷ [])) 0 ≡ 1
   pub user-leaf-holds : holders (userSees 3 0 (leaf 0 3 ∷ [])) (plan [] [] []) 0 ≡ 0
   pub nobody-holds : holders (seenIn 1 1 1 3 0 two) (plan [] [] (1 ∷ [])) 0 ≡ 1
@@ -226,19 +233,21 @@ pub record Runs : Type 0 where
   pub chain-holders : holders (seen 9 6 chained) (plan (0 ∷ 1 ∷ 0 ∷ 0 ∷ 0 ∷ 1 ∷ []) (0 ∷ 1 ∷ []) (3 ∷ 0 ∷ 12 ∷ [])) 2 ≡ 3
   pub unsealed-holders : holders (seen 9 6 chained) (plan (0 ∷ 1 ∷ 0 ∷ 0 ∷ 0 ∷ 1 ∷ []) (0 ∷ 1 ∷ []) (2 ∷ 0 ∷ 12 ∷ [])) 2 ≡ 1
   pub own-holders : holders (seen 9 6 chained) (plan (0 ∷ 1 ∷ 0 ∷ 0 ∷ 0 ∷ 1 ∷ []) (0 ∷ 1 ∷ []) (3 ∷ 0 ∷ 12 ∷ [])) 3 ≡ 1
-  -- two pairs that share attribute 0 have one key; two that share none have two; an attribute of a pair past those that the node names, or before
+  -- two pairs that share attribute 0 have one key; two that share none have two, also where a pair stands twice before the last; an attribute of a pair past those that the node names, or before
   -- them, has its own
   pub shared-key : keyOf (seenOn 15 0 sharedPairs (pairsJoined 0 2 0)) (plan [] [] (1 ∷ 12 ∷ [])) 0 ≡ 0
   pub shared-key-first : keyOf (seenOn 15 0 sharedPairs (pairsJoined 0 2 0)) (plan [] [] (1 ∷ 12 ∷ [])) 2 ≡ 0
   pub shared-key-last : keyOf (seenOn 15 0 sharedPairs (pairsJoined 0 2 0)) (plan [] [] (1 ∷ 12 ∷ [])) 3 ≡ 0
   pub apart-key-first : keyOf (seenOn 15 0 apartPairs (pairsJoined 0 2 0)) (plan [] [] (3 ∷ 12 ∷ [])) 2 ≡ 0
   pub apart-key-last : keyOf (seenOn 15 0 apartPairs (pairsJoined 0 2 0)) (plan [] [] (3 ∷ 12 ∷ [])) 3 ≡ 1
+  pub third-key : keyOf (seenOn 15 0 threePairs (pairsJoined 0 3 0)) (plan [] [] (3 ∷ 12 ∷ [])) 3 ≡ 1
   pub past-key : keyOf (seenOn 15 0 apartPairs (pairsJoined 0 1 0)) (plan [] [] (3 ∷ 12 ∷ [])) 3 ≡ 3
   pub before-key : keyOf (seenOn 15 0 apartPairs (pairsJoined 1 1 0)) (plan [] [] (3 ∷ 12 ∷ [])) 2 ≡ 2
   -- a join on two pairs, stuck: one of the first pair is sealed and the other clear, or of the last, while the other pair is clear, or sealed; it
   -- needs the last pair, which arrives sealed
   pub pair-mixed : Unclean (seenOn 15 0 apartPairs (pairsJoined 0 2 0)) (plan (0 ∷ 0 ∷ 1 ∷ []) [] (1 ∷ []))
   pub last-pair-mixed : Unclean (seenOn 15 0 apartPairs (pairsJoined 0 2 0)) (plan (0 ∷ 0 ∷ 1 ∷ []) [] (2 ∷ []))
+  pub third-pair-mixed : Unclean (seenOn 15 0 threePairs (pairsJoined 0 3 0)) (plan (0 ∷ 0 ∷ 1 ∷ []) [] (2 ∷ []))
   pub pair-mixed-beside : Unclean (seenOn 15 0 apartPairs (pairsJoined 0 2 0)) (plan (0 ∷ 0 ∷ 1 ∷ []) [] (2 ∷ 12 ∷ []))
   pub needs-pair : Unclean (seenOn 15 0 apartPairs (pairsJoined 0 2 10)) (plan (0 ∷ 0 ∷ 1 ∷ []) [] (2 ∷ 8 ∷ []))
   -- forbidden, by the result alone: of the first pair, or of the last, subject 1 sees one in clear and one sealed; of two pairs that share attribute 0,

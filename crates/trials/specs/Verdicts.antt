@@ -31,19 +31,25 @@ pub record FileVerdicts : Type 0 where
   -- in version 2, the small file with a user; in version 1 none is read, whatever stands behind the steps allowed
   pub user-accepted :
       checkOf (withUser 1 small) ≡ answers (record { version = 2; subjects = 2; relations = 2; attributes = 2; nodes = 4; grants = 4; steps = 6; user = 1; pairs = 0 })
+  pub user-unread : headerOf (set small (relationByte 0 0) 9) .user ≡ 0
   -- in version 3, a join on two pairs that needs neither, one or both of them; a pair that no node names means nothing
   pub paired-accepted :
       checkOf (paired 0) ≡ answers (record { version = 3; subjects = 2; relations = 2; attributes = 4; nodes = 3; grants = 4; steps = 2; user = 0; pairs = 3 })
+  -- version 3 keeps the user
+  pub paired-user :
+      checkOf (set (paired 0) 15 1)
+      ≡ answers (record { version = 3; subjects = 2; relations = 2; attributes = 4; nodes = 3; grants = 4; steps = 2; user = 1; pairs = 3 })
   pub paired-one : checkOf (paired 5) ≡ checkOf (paired 0)
   pub paired-both : checkOf (paired 15) ≡ checkOf (paired 0)
-  -- pairs that share an attribute, a pair twice, eight pairs; no pairs at all
+  -- pairs that share an attribute, a pair twice, eight pairs, of which the last alone is needed, the last of 255 pairs; no pairs at all
   pub pairs-shared : checkOf (pairing 3 (joining 1 2 13) (0 ∷ 0 ∷ 0 ∷ 2 ∷ 0 ∷ 3 ∷ [])) ≡ checkOf (paired 0)
   pub pairs-twice : checkOf (pairing 3 (joining 1 2 5) (0 ∷ 0 ∷ 0 ∷ 2 ∷ 0 ∷ 2 ∷ [])) ≡ checkOf (paired 0)
   pub pairs-eight : Accepted (pairing 9 (joining 1 8 0) (0 ∷ 0 ∷ pairsOf 8))
+  pub eighth-needed : Accepted (pairing 9 (joining 1 8 10) (0 ∷ 0 ∷ (pairsOf 7 ++ (1 ∷ 3 ∷ []))))
+  pub pairs-most : Accepted (pairing 255 (joining 254 1 0) (pairsOf 255))
   pub pairs-none : Accepted (pairing 0 (naming 0 0 (aNode 4 0 1 255 255 0 0)) [])
   -- in version 2 no pairs are read, whatever stands behind the user
   pub pairs-unread : headerOf (set (withUser 1 small) 16 9) .pairs ≡ 0
-  pub user-unread : headerOf (set small (relationByte 0 0) 9) .user ≡ 0
   -- 1: fewer than 3 bytes, or not the mark; before 2
   pub mark-short : Refused (take 2 small) 1 0
   pub mark-first : Refused (set small 0 66) 1 0
@@ -74,6 +80,7 @@ pub record FileVerdicts : Type 0 where
   pub counts-before-length : Refused (take 15 (set small 5 0)) 4 0
   pub user-missing : Refused (withUser 2 small) 4 0
   pub user-any : Refused (withUser 255 small) 4 0
+  pub paired-user-missing : Refused (set (paired 0) 15 2) 4 0
   pub user-before-length : Refused (take 16 (withUser 2 small)) 4 0
   -- 3, after 4: a length other than the counts give; before 5
   pub length-less : Refused (take 264 small) 3 0
@@ -119,19 +126,23 @@ pub record FileVerdicts : Type 0 where
   pub spare-filled : Refused (set small (nodeByte 3 7) 1) 8 3
   pub spare-second : Refused (set small (nodeByte 3 6) 1) 8 3
   pub size-high : Refused (set small (nodeByte 1 24) 1) 8 1
-  -- kind 9 before version 3, kind 10 in it
+  -- a kind that the version doesn't have, with nothing else wrong: in version 1 and in version 3; kind 9 before version 3
+  pub kind-high : Refused (set (set (set small (nodeByte 3 0) 10) (nodeByte 3 3) 255) (nodeByte 3 23) 0) 8 3
+  pub kind-last : Refused (pairing 0 (naming 0 0 (aNode 10 0 255 255 255 0 0)) []) 8 2
   pub kind-early : Refused (set (withUser 0 small) (1 + nodeByte 2 0) 9) 8 2
-  pub kind-last : Refused (pairing 0 (naming 0 0 (aNode 10 0 1 255 255 0 0)) []) 8 2
-  -- pairs named: none, more than 8, past the list, though the first is in it; x, y and set, which kind 9 doesn't use; a first or a count in another kind
+  -- pairs named: none, more than 8, past the list with the last of them, or with all
   pub names-none : Refused (pairing 3 (joining 1 0 0) threePairs) 8 2
   pub names-many : Refused (pairing 10 (joining 1 9 0) (0 ∷ 0 ∷ pairsOf 9)) 8 2
   pub names-past : Refused (pairing 3 (joining 2 2 0) threePairs) 8 2
   pub names-beyond : Refused (pairing 3 (joining 255 2 0) threePairs) 8 2
+  -- x, y and set, which kind 9 doesn't use; no right operand; a first or a count in another kind, in each node
   pub pairs-with-x : Refused (pairing 3 (naming 1 2 (aNode 9 0 1 0 255 0 0)) threePairs) 8 2
   pub pairs-with-y : Refused (pairing 3 (naming 1 2 (aNode 9 0 1 255 2 0 0)) threePairs) 8 2
   pub pairs-with-set : Refused (pairing 3 (naming 1 2 (aNode 9 0 1 255 255 1 0)) threePairs) 8 2
   pub pairs-one-child : Refused (pairing 3 (naming 1 2 (aNode 9 0 255 255 255 0 0)) threePairs) 8 2
   pub first-unused : Refused (pairing 3 (naming 1 0 (aNode 4 0 1 255 255 0 0)) threePairs) 8 2
+  pub leaf-first : Refused (set (paired 0) 135 1) 8 0
+  pub leaf-count : Refused (set (paired 0) 136 1) 8 0
   pub count-unused : Refused (pairing 3 (naming 0 1 (aNode 4 0 1 255 255 0 0)) threePairs) 8 2
   -- 9: attributes or relation of a node; a relation that an earlier leaf has taken; the node
   pub leaf-relation : Refused (set small (nodeByte 1 3) 2) 9 1
@@ -145,7 +156,8 @@ pub record FileVerdicts : Type 0 where
   pub pair-last-hidden : Refused (pairing 2 (joining 0 2 0) (0 ∷ 2 ∷ 1 ∷ 1 ∷ [])) 9 2
   pub pair-no-attribute : Refused (pairing 1 (joining 0 1 0) (0 ∷ 4 ∷ [])) 9 2
   pub pair-left-beyond : Refused (pairing 1 (joining 0 1 0) (64 ∷ 2 ∷ [])) 9 2
-  pub pair-right-beyond : Refused (pairing 1 (joining 0 1 0) (0 ∷ 255 ∷ [])) 9 2
+  pub pair-right-beyond : Refused (pairing 1 (joining 0 1 0) (0 ∷ 66 ∷ [])) 9 2
+  pub eighth-hidden : Refused (pairing 9 (joining 1 8 0) (0 ∷ 0 ∷ (pairsOf 7 ++ (1 ∷ 1 ∷ [])))) 9 2
   pub names-before-pairs : Refused (pairing 1 (joining 0 2 0) (2 ∷ 0 ∷ [])) 8 2
   -- 10: a needed set outside what is read; half of what is read together; the node
   pub needed-unread : Refused (set small (nodeByte 2 23) 1) 10 2
@@ -155,6 +167,7 @@ pub record FileVerdicts : Type 0 where
   pub needed-half-left : Refused (pairing 1 (joining 0 1 1) (0 ∷ 2 ∷ [])) 10 2
   pub needed-half-right : Refused (pairing 1 (joining 0 1 4) (0 ∷ 2 ∷ [])) 10 2
   pub needed-half-second : Refused (paired 7) 10 2
+  pub eighth-half : Refused (pairing 9 (joining 1 8 2) (0 ∷ 0 ∷ (pairsOf 7 ++ (1 ∷ 3 ∷ [])))) 10 2
   pub needed-half-shared : Refused (pairing 2 (joining 0 2 5) (0 ∷ 2 ∷ 0 ∷ 3 ∷ [])) 10 2
   pub pairs-before-needed : Refused (pairing 1 (joining 0 1 1) (2 ∷ 0 ∷ [])) 9 2
   -- a node's 8, 9, 10 in turn, and all three before the next node's
