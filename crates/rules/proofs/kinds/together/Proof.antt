@@ -1,17 +1,22 @@
 -- The tests are those by which sets are read together, in that order.
-use Rattle.laws.proofs.Cases.{cases}
+use mathlib.Core.Path.{refl}
+use borrow.Author.Tests.{eq-eqb, ne-eqb}
+use Rattle.laws.proofs.Cases.{cases, yes-is, no-is}
 use Rattle.rules.proofs.Together.{together-many}
 use Rattle.rules.proofs.kinds.together.Statement.{statement}
 use Rattle.rules.proofs.kinds.together.Tie as tie
 
 returns : tie.Need-returns
-returns c = λ N. rw (← together-many N _) (search cases depth 20)
+returns c = λ N. rw (← together-many N _) (yes-is _ 1 1 _ (eq-eqb _ 3 (c .if1 .taken)) refl)
 
 returns-2 : tie.Need-returns-2
-returns-2 c = λ N. rw (← together-many N _) (search cases depth 20)
+returns-2 c = λ N. rw (← together-many N _) (no-is _ 1 1 _ (ne-eqb _ 3 (c .before .if1 .left)) (yes-is _ 1 1 _ (eq-eqb _ 5 (c .if2 .taken)) refl))
 
 returns-3 : tie.Need-returns-3
-returns-3 c = λ N. rw (← together-many N _) (search cases depth 20)
+returns-3 c =
+    λ N.
+    rw (← together-many N _)
+    (no-is _ 1 1 _ (ne-eqb _ 3 (c .before .before .if1 .left)) (no-is _ 1 1 _ (ne-eqb _ 5 (c .before .if2 .left)) (yes-is _ 1 1 _ (eq-eqb _ 8 (c .if3 .taken)) refl)))
 
 returns-4 : tie.Need-returns-4
 returns-4 c = λ N. rw (← together-many N _) (search cases depth 20)
