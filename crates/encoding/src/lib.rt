@@ -101,7 +101,8 @@ fn miscounted(
 
 // The same of the pairs' bytes and of the prices alone.
 fn lists_miscounted(h: Header, pairs: usize, steps: usize, links: usize) -> bool
-    ensures { λ r. ⌜ r ≡ anyOf (not (eqb pairs (2 * pairsIn h)) ∷ not (eqb steps (h .nodes * h .subjects)) ∷ not (eqb links (h .subjects * h .subjects)) ∷ []) ⌝ }
+    ensures { λ r. ⌜ r ≡ anyOf (not (eqb pairs (2 * pairsIn h)) ∷ not (eqb steps (h .nodes * h .subjects))
+        ∷ not (eqb links (h .subjects * h .subjects)) ∷ []) ⌝ }
 {
     if pairs != versions::PAIR_LENGTH * places::pairs_in(h) {
         return true;
@@ -150,7 +151,8 @@ fn put_all(
     requires { ⌜ (countsBad h ≡ false) × (length (now room) ≡ longest)
         × (length (now pairs) ≡ 2 * pairsIn h)
         × (length (now steps) ≡ h .nodes * h .subjects) × (length (now links) ≡ h .subjects * h .subjects) ⌝ }
-    ensures { λ _. ⌜ Stored (now (room .entry)) (now (room .exit)) 0 (fileBytes (heldIn h relations grants nodes (now (pairs .entry)) (now (steps .entry)) (now (links .entry))))
+    ensures { λ _. ⌜ Stored (now (room .entry)) (now (room .exit)) 0
+        (fileBytes (heldIn h relations grants nodes (now (pairs .entry)) (now (steps .entry)) (now (links .entry))))
         × ValuesFit (heldIn h relations grants nodes (now (pairs .entry)) (now (steps .entry)) (now (links .entry)))
         × (fileLength h ≤ longest) ⌝ }
 {

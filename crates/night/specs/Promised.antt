@@ -64,8 +64,10 @@ pub record SoundNode (N : Night) (i : ℕ) : Type 0 where
   pub set-visible : (nodeOf N i .kind ≡ 0 → ⊥) → usesSet (nodeOf N i .kind) ≡ true → Within (nodeOf N i .set) (visible N (nodeOf N i .left))
   pub x-outside : nodeOf N i .kind ≡ 6 → In (nodeOf N i .x) (nodeOf N i .set) → ⊥
   pub x-inside : nodeOf N i .kind ≡ 8 → In (nodeOf N i .x) (nodeOf N i .set)
-  pub pair-visible-left : usesPairs (nodeOf N i .kind) ≡ true → (k : ℕ) → k < nodeOf N i .count → In (itsPair N (nodeOf N i) k .left) (visible N (nodeOf N i .left))
-  pub pair-visible-right : usesPairs (nodeOf N i .kind) ≡ true → (k : ℕ) → k < nodeOf N i .count → In (itsPair N (nodeOf N i) k .right) (visible N (nodeOf N i .right))
+  pub pair-visible-left : usesPairs (nodeOf N i .kind) ≡ true → (k : ℕ) → k < nodeOf N i .count
+      → In (itsPair N (nodeOf N i) k .left) (visible N (nodeOf N i .left))
+  pub pair-visible-right : usesPairs (nodeOf N i .kind) ≡ true → (k : ℕ) → k < nodeOf N i .count
+      → In (itsPair N (nodeOf N i) k .right) (visible N (nodeOf N i .right))
   pub needed-read : Within (nodeOf N i .needed) (reads N (nodeOf N i))
   pub needed-together : AllOrNone (nodeOf N i .needed) (readTogether N (nodeOf N i))
 

@@ -8,7 +8,8 @@ use Rattle.laws.specs.Trials.{answers, refuses}
 use Rattle.layout.specs.Layout.{headerOf}
 use Rattle.trials.specs.Trials.{checkOf}
 use Rattle.trials.specs.Sample.{sample}
-use Rattle.trials.specs.Small.{small, withUser, relationByte, grantByte, nodeByte, priceByte, parentless, twoParentless, aNode, naming, pairing, joining, threePairs, paired}
+use Rattle.trials.specs.Small.{small, withUser, relationByte, grantByte, nodeByte, priceByte, parentless, twoParentless}
+use Rattle.trials.specs.Small.{aNode, naming, pairing, joining, threePairs, paired}
 
 -- the file is refused with this number and place
 abbrev pub Refused : List ℕ → ℕ → ℕ → Type 0

@@ -110,7 +110,15 @@ withGrants gs vs =
 
 abbrev pub withPairs : List ℕ → Values → Values
 withPairs qs vs =
-    record { header = vs .header; relations = vs .relations; grants = vs .grants; nodes = vs .nodes; pairs = qs; stepPrices = vs .stepPrices; linkPrices = vs .linkPrices }
+    record {
+      header = vs .header;
+      relations = vs .relations;
+      grants = vs .grants;
+      nodes = vs .nodes;
+      pairs = qs;
+      stepPrices = vs .stepPrices;
+      linkPrices = vs .linkPrices;
+    }
 
 abbrev pub withSteps : List ℕ → Values → Values
 withSteps ps vs =
