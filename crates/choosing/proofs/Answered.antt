@@ -20,7 +20,7 @@ use Rattle.sets.proofs.Words.{members-lt, lowest-in}
 use Rattle.night.specs.declared.Header.{Header}
 use Rattle.night.specs.Night.{Night, nodeOf}
 use Rattle.night.specs.Promised.{Promised}
-use Rattle.layout.specs.Layout.{headerOf, nightIn, nightOf}
+use Rattle.format.specs.Layout.{headerOf, nightIn, nightOf}
 use Rattle.model.specs.Candidates.{candidateSet}
 use Rattle.model.specs.Choice.{ownerOf, Admissible, AllHave, total, steps}
 use Rattle.model.specs.Dp.{costRows, bestLast, chosenLast, giveDown, chosen}

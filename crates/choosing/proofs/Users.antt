@@ -21,7 +21,7 @@ use Rattle.night.specs.declared.Node.{Node}
 use Rattle.night.specs.Versions.{delivers}
 use Rattle.night.specs.Night.{Night, nodeOf}
 use Rattle.night.specs.Views.{clearOf, sealedOf}
-use Rattle.layout.specs.Layout.{headerOf, nightIn, nightOf}
+use Rattle.format.specs.Layout.{headerOf, nightIn, nightOf}
 use Rattle.model.specs.Tables.{leafTable, tableOf}
 use Rattle.model.specs.Candidates.{May, may}
 use Rattle.model.proofs.Chains.{unlinked, untied-classes}

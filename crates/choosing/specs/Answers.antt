@@ -5,7 +5,7 @@ use mathlib.Core.List.{List}
 use lib.ListN.{length, getD, replicate}
 use Rattle.laws.specs.Trials.{Says, answers, refuses, verdict}
 use Rattle.night.specs.Night.{Night}
-use Rattle.layout.specs.Layout.{nightOf}
+use Rattle.format.specs.Layout.{nightOf}
 use Rattle.model.specs.Choice.{Least, total, steps}
 use Rattle.verdicts.specs.Refusals.{cheapestTrials, offeredTrials}
 use Rattle.reading.specs.declared.Checked.{Checked}

@@ -11,7 +11,7 @@ use Rattle.sets.specs.Sets.{within}
 use Rattle.night.specs.declared.Node.{Node}
 use Rattle.night.specs.Kinds.{aLeaf}
 use Rattle.night.specs.Views.{clearOf}
-use Rattle.layout.specs.Layout.{nightIn}
+use Rattle.format.specs.Layout.{nightIn}
 use Rattle.trials.specs.Trials.{checkOf}
 use Rattle.reading.specs.declared.Checked.{Checked}
 use Rattle.reading.specs.declared.Checked.the-variants.{Accepted, Refused}

@@ -5,7 +5,7 @@ ghost use mathlib.Core.Path.{_≡_};
 ghost use Prim.Native.Nat.{_*_};
 ghost use lib.Dec.{eqb};
 ghost use Rattle.laws.specs.Choose.{if_then_else_};
-ghost use Rattle.layout.specs.Layout.{nightIn};
+ghost use Rattle.format.specs.Layout.{nightIn};
 ghost use Rattle.night.specs.Night.{nodeOf, stepPrice, linkPrice};
 
 // What subject p is paid for node i itself: nothing where it is a leaf.

@@ -3,10 +3,9 @@
 use crate::rows;
 use layout::values;
 use night::Header;
-use rules::kinds;
 ghost use mathlib.Core.Path.{_≡_};
 ghost use Prim.Native.Nat.{_<_};
-ghost use Rattle.layout.specs.Layout.{nightIn};
+ghost use Rattle.format.specs.Layout.{nightIn};
 ghost use Rattle.night.specs.Promised.{Promised};
 ghost use Rattle.model.specs.Choice.{AllHave, steps};
 ghost use Rattle.choosing.specs.Answers.{CheapestFor};

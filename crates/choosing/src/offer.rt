@@ -2,13 +2,12 @@
 use crate::costs;
 use layout::values;
 use night::Header;
-use rules::kinds;
 use sets::subjects;
 ghost use mathlib.Core.Path.{_≡_};
 ghost use Prim.Native.Nat.{_<_, _≤_};
 ghost use lib.ListN.{length, getD};
 ghost use Rattle.laws.specs.First.{first};
-ghost use Rattle.layout.specs.Layout.{nightIn};
+ghost use Rattle.format.specs.Layout.{nightIn};
 ghost use Rattle.night.specs.Promised.{Promised};
 ghost use Rattle.model.specs.Choice.{Admissible, handed, costAt, total};
 ghost use Rattle.verdicts.specs.Refusals.{offerBad};

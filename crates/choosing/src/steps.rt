@@ -1,14 +1,13 @@
 // Steps: over every child and its parent, the parent's candidates times the child's.
 use layout::values;
 use night::Header;
-use rules::kinds;
 use sets::subjects;
 ghost use mathlib.Core.Path.{_≡_};
 ghost use mathlib.Core.Bool.{true};
 ghost use Prim.Native.Nat.{_*_, _<_, _≤_};
 ghost use lib.Dec.{eqb};
 ghost use Rattle.laws.specs.Choose.{if_then_else_};
-ghost use Rattle.layout.specs.Layout.{nightIn};
+ghost use Rattle.format.specs.Layout.{nightIn};
 ghost use Rattle.night.specs.Promised.{Promised};
 ghost use Rattle.sets.specs.Sets.{size};
 ghost use Rattle.model.specs.Choice.{weight, stepsAt, steps};

@@ -7,7 +7,7 @@ ghost use Prim.Native.Nat.{_≤_};
 ghost use lib.Dec.{eqb};
 ghost use Rattle.laws.specs.Choose.{if_then_else_};
 ghost use Rattle.laws.specs.First.{first};
-ghost use Rattle.layout.specs.Layout.{nightIn};
+ghost use Rattle.format.specs.Layout.{nightIn};
 ghost use Rattle.verdicts.specs.Refusals.{withoutCandidate};
 ghost use Rattle.choosing.specs.Held.{HasSets};
 

@@ -7,7 +7,7 @@ use reading::Checked;
 use sets::attributes;
 ghost use mathlib.Core.Path.{_≡_};
 ghost use Rattle.laws.specs.First.{first};
-ghost use Rattle.layout.specs.Layout.{nightIn};
+ghost use Rattle.format.specs.Layout.{nightIn};
 ghost use Rattle.night.specs.Night.{nodeOf};
 ghost use Rattle.reading.specs.Answers.{saidOf};
 ghost use Rattle.verdicts.specs.Refusals.{choosingOf};

@@ -12,7 +12,7 @@ use Rattle.laws.proofs.Upwards.{each-at, each-length}
 use Rattle.night.specs.declared.Header.{Header}
 use Rattle.night.specs.Night.{Night}
 use Rattle.night.specs.Promised.{Promised}
-use Rattle.layout.specs.Layout.{headerOf, nightOf}
+use Rattle.format.specs.Layout.{headerOf, nightOf}
 use Rattle.trials.specs.Trials.{trials, checkOf}
 use Rattle.trials.proofs.Promises.{accepted-promises}
 use Rattle.model.specs.Candidates.{candidateSet}

@@ -20,7 +20,7 @@ use Rattle.night.specs.Night.{Night, relationOf, grantOf, nodeOf, stepPrice, li
 use Rattle.night.specs.Kinds.{usesLeft, usesRight, reads, readTogether, visibleAfter, itsPair, bothOf, pairsRead}
 use Rattle.night.specs.Promised.{Promised}
 use Rattle.night.specs.Views.{anySubject, isFor, grantFor, viewOf, clearOf, sealedOf}
-use Rattle.layout.specs.Layout.{grantsFrom, nodesFrom, stepPricesFrom, linkPricesFrom, headerOf, relationAt, grantAt, nodeAt, pricesAt, nightIn, nightOf, pairsFrom, pairsIn, pairAt}
+use Rattle.format.specs.Layout.{grantsFrom, nodesFrom, stepPricesFrom, linkPricesFrom, headerOf, relationAt, grantAt, nodeAt, pricesAt, nightIn, nightOf, pairsFrom, pairsIn, pairAt}
 use Rattle.model.specs.Ties.{gathered, tie, merged}
 use Rattle.model.specs.Tables.{leastView, tests, ties, joined, result, leafTable, stepTable, tableStep, tables, tableOf}
 use Rattle.model.specs.Candidates.{clearOffends, sealedOffends, tiedOffends, may, mayTake, isCandidate, candidateSet}

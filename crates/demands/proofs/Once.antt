@@ -7,7 +7,7 @@ use Rattle.laws.proofs.Trials.{never, passed, passes-accepts, passes-append}
 use Rattle.laws.proofs.Upwards.{each-same}
 use Rattle.night.specs.Night.{Night}
 use Rattle.night.specs.Promised.{Promised}
-use Rattle.layout.specs.Layout.{nightOf}
+use Rattle.format.specs.Layout.{nightOf}
 use Rattle.model.specs.Choice.{Choice}
 use Rattle.model.specs.Plan.{built}
 use Rattle.model.proofs.Once.{least-total, least-once}

@@ -14,7 +14,7 @@ use Rattle.night.specs.Night.{Night, relationOf, grantOf, nodeOf, stepPrice, li
 use Rattle.night.specs.Promised.{Promised}
 use Rattle.night.specs.Kinds.{usesLeft, usesRight, reads, readTogether, visibleAfter, visibleStep, visibles, usesX, usesY, usesSet, isChild, taken, itsPair, bothOf, pairsRead, usesPairs}
 use Rattle.night.specs.Views.{isFor, grantFor, viewOf, clearOf, sealedOf}
-use Rattle.layout.specs.Layout.{grantsFrom, nodesFrom, stepPricesFrom, linkPricesFrom, headerOf, relationAt, grantAt, nodeAt, pricesAt, nightIn, nightOf, fileLength, pairsFrom, pairsIn, pairAt}
+use Rattle.format.specs.Layout.{grantsFrom, nodesFrom, stepPricesFrom, linkPricesFrom, headerOf, relationAt, grantAt, nodeAt, pricesAt, nightIn, nightOf, fileLength, pairsFrom, pairsIn, pairAt}
 use Rattle.run.specs.Keys.{events, everSealed, groupOf, keyName, holdersOf, keyHolders}
 use Rattle.run.specs.Run.{testedBy, tiedBy, spreadOver, spread, spreadTimes, reached, keyOf, leaving, openedBy, together, leafHeld, resultOver, arriving, heldStep, helds, resultOf, delivered, sealedIn, deliveries, allEvents, holders, Clean}
 use Rattle.model.specs.Ties.{gathered, tie, merged}
@@ -36,7 +36,7 @@ use Rattle.demands.specs.SampleRuns.{subjects, chosen, SampleRuns}
 use Rattle.demands.proofs.Marked.{sound}
 use Rattle.laws.specs.Sums.{sum}
 use Rattle.laws.specs.Trials.{verdict, rows, answers, refuses}
-use Rattle.rules.specs.Rules.{userBad, countsBad, relationBad, leftOver, subjectThere, grantBad, ownerBad, childBad, leftBad, rightBad, unusedBad, shapeBad, leafBad, xBad, yBad, setBad, placeBad, stepBad, half, neededBad, mostForStep, mostForLink, namesBad, pairBad, pairsBad}
+use Rattle.trials.specs.Rules.{userBad, countsBad, relationBad, leftOver, subjectThere, grantBad, ownerBad, childBad, leftBad, rightBad, unusedBad, shapeBad, leafBad, xBad, yBad, setBad, placeBad, stepBad, half, neededBad, mostForStep, mostForLink, namesBad, pairBad, pairsBad}
 use Rattle.trials.specs.Trials.{notMarked, notVersioned, headerTrials, takenBefore, pairSeen, isLeafOf, leafBefore, attributesBad, priceIn, mostIn, countIn, trialsOf, section, recordTrials, treeTrials, trials}
 use Rattle.verdicts.specs.Verdicts.{cheapest, room}
 

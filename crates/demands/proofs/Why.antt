@@ -14,8 +14,8 @@ use Rattle.sets.specs.Sets.{In}
 use Rattle.night.specs.declared.Header.{Header}
 use Rattle.night.specs.Night.{Night, nodeOf}
 use Rattle.night.specs.Views.{clearOf, sealedOf}
-use Rattle.layout.specs.Layout.{headerOf, nightIn, nightOf}
-use Rattle.layout.proofs.Sections.{node-past}
+use Rattle.format.specs.Layout.{headerOf, nightIn, nightOf}
+use Rattle.format.proofs.Sections.{node-past}
 use Rattle.model.specs.declared.Standing.{Standing}
 use Rattle.model.specs.declared.Standing.the-variants.{Candidate, Out}
 use Rattle.model.specs.Candidates.{candidateSet}

@@ -10,7 +10,7 @@ use Rattle.laws.specs.Trials.{answers}
 use Rattle.sets.specs.Sets.{In}
 use Rattle.night.specs.declared.Header.{Header}
 use Rattle.night.specs.Night.{Night, nodeOf}
-use Rattle.layout.specs.Layout.{nightOf}
+use Rattle.format.specs.Layout.{nightOf}
 use Rattle.model.specs.Choice.{Choice}
 use Rattle.run.specs.Keys.{Plan}
 use Rattle.model.specs.Plan.{built, inTurn, keysRoom}

@@ -11,7 +11,7 @@ use Rattle.sets.specs.Sets.{member, single}
 use Rattle.night.specs.declared.Node.{Node}
 use Rattle.night.specs.Night.{Night}
 use Rattle.night.specs.Views.{anySubject, viewOf, clearOf, sealedOf}
-use Rattle.layout.specs.Layout.{nightOf}
+use Rattle.format.specs.Layout.{nightOf}
 use Rattle.model.specs.declared.Table.{Table}
 use Rattle.model.specs.Ties.{untied, tie}
 use Rattle.model.specs.Tables.{stepTable, FunctionTies}

@@ -4,7 +4,7 @@ use mathlib.Core.Path.{_≡_}
 use mathlib.Core.List.{List, [], _∷_}
 use lib.ListN.{getD}
 use Rattle.laws.specs.Trials.{answers, refuses}
-use Rattle.layout.specs.Layout.{nightOf}
+use Rattle.format.specs.Layout.{nightOf}
 use Rattle.trials.specs.Sample.{sample}
 use Rattle.trials.specs.Small.{withUser}
 use Rattle.model.specs.Choice.{Choice}

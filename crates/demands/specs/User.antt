@@ -4,7 +4,7 @@ use mathlib.Core.Path.{_≡_}
 use mathlib.Core.Bool.{true}
 use mathlib.Core.List.{List}
 use Rattle.night.specs.Versions.{delivers}
-use Rattle.layout.specs.Layout.{headerOf}
+use Rattle.format.specs.Layout.{headerOf}
 use Rattle.verdicts.specs.Refusals.{Rooms}
 use Rattle.planning.specs.Answers.{CheapestSays}
 use Rattle.planning.specs.declared.CheapestPlan.the-variants.{Refused}

@@ -8,7 +8,7 @@ use Rattle.sets.specs.Sets.{In}
 use Rattle.night.specs.declared.Header.{Header}
 use Rattle.night.specs.Night.{nodeOf}
 use Rattle.night.specs.Views.{clearOf, sealedOf}
-use Rattle.layout.specs.Layout.{nightOf}
+use Rattle.format.specs.Layout.{nightOf}
 use Rattle.trials.specs.Trials.{checkOf}
 use Rattle.model.specs.declared.Standing.{Standing}
 use Rattle.model.specs.declared.Standing.the-variants.{Candidate, Out}

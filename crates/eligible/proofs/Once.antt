@@ -6,7 +6,7 @@ use Rattle.laws.specs.Trials.{Says, answers, refuses}
 use Rattle.laws.proofs.Trials.{never}
 use Rattle.night.specs.declared.Header.{Header}
 use Rattle.night.specs.Night.{Night}
-use Rattle.layout.specs.Layout.{nightIn}
+use Rattle.format.specs.Layout.{nightIn}
 use Rattle.trials.specs.Trials.{checkOf}
 use Rattle.model.specs.Candidates.{candidateSet}
 use Rattle.reading.specs.declared.Checked.{Checked}

@@ -18,8 +18,8 @@ use Rattle.night.specs.declared.Relation.{Relation}
 use Rattle.night.specs.declared.Node.{Node}
 use Rattle.night.specs.Night.{Night, relationOf, nodeOf}
 use Rattle.night.specs.Promised.{Promised}
-use Rattle.layout.specs.Layout.{nightIn}
-use Rattle.layout.proofs.Sections.{node-past}
+use Rattle.format.specs.Layout.{nightIn}
+use Rattle.format.proofs.Sections.{node-past}
 use Rattle.model.specs.declared.Table.{Table}
 use Rattle.model.specs.Candidates.{isCandidate, candidateSet}
 use Rattle.model.specs.Dp.{subjectsOf}

@@ -16,7 +16,7 @@ use Rattle.night.specs.Night.{Night, nodeOf}
 use Rattle.night.specs.Kinds.{usesRight}
 use Rattle.night.specs.Promised.{Promised}
 use Rattle.night.specs.Views.{clearOf, sealedOf}
-use Rattle.layout.specs.Layout.{headerOf, nightIn, nightOf}
+use Rattle.format.specs.Layout.{headerOf, nightIn, nightOf}
 use Rattle.model.specs.declared.Table.{Table}
 use Rattle.model.specs.declared.Standing.{Standing}
 use Rattle.model.specs.declared.Standing.the-variants.{Candidate, Out}

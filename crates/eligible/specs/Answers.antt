@@ -9,7 +9,7 @@ use Rattle.laws.specs.Trials.{answers, refuses, verdict}
 use Rattle.laws.specs.Upwards.{each}
 use Rattle.night.specs.Night.{Night}
 use Rattle.night.specs.Views.{clearOf, sealedOf}
-use Rattle.layout.specs.Layout.{nightIn, nightOf}
+use Rattle.format.specs.Layout.{nightIn, nightOf}
 use Rattle.trials.specs.Trials.{checkOf}
 use Rattle.model.specs.Candidates.{candidateSet}
 use Rattle.model.specs.Dp.{subjectsOf}

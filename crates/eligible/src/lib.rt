@@ -11,7 +11,7 @@ use night::Header;
 use reading::Checked;
 use sets::subjects;
 ghost use mathlib.Core.Path.{_≡_};
-ghost use Rattle.layout.specs.Layout.{nightIn};
+ghost use Rattle.format.specs.Layout.{nightIn};
 ghost use Rattle.laws.specs.Upwards.{each};
 ghost use Rattle.night.specs.Promised.{Promised};
 ghost use Rattle.night.specs.Views.{clearOf};

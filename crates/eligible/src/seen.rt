@@ -7,7 +7,7 @@ use sets::subjects;
 ghost use mathlib.Core.Path.{_≡_};
 ghost use Prim.Native.Nat.{_<_};
 ghost use Rattle.laws.specs.Upwards.{each};
-ghost use Rattle.layout.specs.Layout.{nightIn};
+ghost use Rattle.format.specs.Layout.{nightIn};
 ghost use Rattle.night.specs.Promised.{Promised};
 ghost use Rattle.night.specs.Views.{clearOf, sealedOf};
 ghost use Rattle.eligible.specs.Seen.{place, anyFor, seenFrom};

@@ -10,9 +10,9 @@ use Rattle.laws.specs.Choose.{if_then_else_}
 use Rattle.laws.proofs.Cases.{none-of}
 use Rattle.night.specs.declared.Header.{Header}
 use Rattle.night.specs.Versions.{hasPairs, headerLength, nodeLength}
-use Rattle.rules.specs.Rules.{countsBad}
-use Rattle.layout.proofs.Written.{header-most, node-most}
-use Rattle.layout.specs.Layout.{grantsFrom, nodesFrom, pairsFrom, pairsIn, stepPricesFrom, linkPricesFrom, fileLength}
+use Rattle.trials.specs.Rules.{countsBad}
+use Rattle.format.proofs.Written.{header-most, node-most}
+use Rattle.format.specs.Layout.{grantsFrom, nodesFrom, pairsFrom, pairsIn, stepPricesFrom, linkPricesFrom, fileLength}
 use Rattle.encoding.specs.Encoded.{mostRelations, mostGrants, mostNodes, longest}
 
 pub record Places (h : Header) : Type 0 where

@@ -17,7 +17,7 @@ use Rattle.night.specs.declared.Grant.{Grant}
 use Rattle.night.specs.declared.Node.{Node}
 use Rattle.night.specs.Versions.{delivers, hasPairs}
 use Rattle.night.proofs.Kept.{pairs-deliver}
-use Rattle.layout.specs.Layout.{headerBytes, relationBytes, grantBytes, nodeStart, nodeBytes}
+use Rattle.format.specs.Layout.{headerBytes, relationBytes, grantBytes, nodeStart, nodeBytes}
 use Rattle.encoding.specs.Stored.{Stored}
 
 -- stores leave a room as long as it was

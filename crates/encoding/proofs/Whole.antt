@@ -17,8 +17,8 @@ use Rattle.night.specs.declared.Grant.{Grant}
 use Rattle.night.specs.declared.Node.{Node}
 use Rattle.night.specs.Versions.{headerLength, nodeLength}
 use Rattle.night.specs.Night.{noRelation, noGrant, noNode}
-use Rattle.layout.specs.Layout.{grantsFrom, nodesFrom, pairsFrom, pairsIn, stepPricesFrom, linkPricesFrom, headerBytes, relationBytes, grantBytes, nodeBytes}
-use Rattle.layout.proofs.Written.{header-long, relation-long, grant-long, node-long}
+use Rattle.format.specs.Layout.{grantsFrom, nodesFrom, pairsFrom, pairsIn, stepPricesFrom, linkPricesFrom, headerBytes, relationBytes, grantBytes, nodeBytes}
+use Rattle.format.proofs.Written.{header-long, relation-long, grant-long, node-long}
 use Rattle.writes.specs.Values.{Values, fileBytes}
 use Rattle.writes.specs.Back.{HeaderFits, RelationFits, GrantFits, NodeFits, ValuesFit}
 use Rattle.encoding.specs.Encoded.{heldIn}

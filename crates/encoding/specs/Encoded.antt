@@ -13,8 +13,8 @@ use Rattle.night.specs.declared.Grant.{Grant}
 use Rattle.night.specs.declared.Node.{Node}
 use Rattle.night.specs.Versions.{known}
 use Rattle.night.specs.Night.{noRelation, noGrant, noNode}
-use Rattle.layout.specs.Layout.{fileLength}
-use Rattle.rules.specs.Rules.{countsBad}
+use Rattle.format.specs.Layout.{fileLength}
+use Rattle.trials.specs.Rules.{countsBad}
 use Rattle.writes.specs.Values.{Values, fileBytes}
 use Rattle.writes.specs.Writing.{miscountedBy, countTrials}
 use Rattle.writes.specs.Back.{ValuesFit}

@@ -11,7 +11,7 @@ ghost use Rattle.encoding.specs.Stored.{Stored};
 ghost use mathlib.Core.List.{[], _∷_, _++_};
 ghost use Rattle.laws.specs.Choose.{if_then_else_};
 ghost use Rattle.night.specs.Versions.{delivers, hasPairs, headerLength, nodeLength};
-ghost use Rattle.layout.specs.Layout.{headerBytes, relationBytes, grantBytes, nodeStart, nodeBytes};
+ghost use Rattle.format.specs.Layout.{headerBytes, relationBytes, grantBytes, nodeStart, nodeBytes};
 ghost use Rattle.writes.specs.Back.{HeaderFits, RelationFits, GrantFits, NodeFits};
 
 // The header, at the start.

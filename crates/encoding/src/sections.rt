@@ -17,7 +17,7 @@ ghost use Rattle.laws.specs.InOrder.{inOrder};
 ghost use Rattle.laws.specs.Upwards.{each};
 ghost use Rattle.night.specs.Versions.{nodeLength};
 ghost use Rattle.night.specs.Night.{noRelation, noGrant, noNode};
-ghost use Rattle.layout.specs.Layout.{relationBytes, grantBytes, nodeBytes};
+ghost use Rattle.format.specs.Layout.{relationBytes, grantBytes, nodeBytes};
 ghost use Rattle.writes.specs.Back.{RelationFits, GrantFits, NodeFits};
 ghost use Rattle.encoding.specs.Encoded.{mostRelations, mostGrants, mostNodes};
 

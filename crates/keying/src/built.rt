@@ -5,7 +5,7 @@ use night::Header;
 use night::versions;
 ghost use mathlib.Core.Path.{_≡_};
 ghost use Rattle.laws.specs.Upwards.{each};
-ghost use Rattle.layout.specs.Layout.{nightIn};
+ghost use Rattle.format.specs.Layout.{nightIn};
 ghost use Rattle.night.specs.Night.{nodeOf};
 ghost use Rattle.keying.specs.Parts.{deliveryOf};
 

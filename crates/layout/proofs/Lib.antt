@@ -1,5 +1,2 @@
 -- The laws of the layout.
-pub mod Sections
-pub mod Read
-pub mod Written
 mod Thin

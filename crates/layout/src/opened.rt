@@ -6,7 +6,7 @@ use night::Node;
 use night::Pair;
 use night::Relation;
 ghost use mathlib.Core.Path.{_≡_};
-ghost use Rattle.layout.specs.Layout.{nightIn, nthPrice};
+ghost use Rattle.format.specs.Layout.{nightIn, nthPrice};
 ghost use Rattle.night.specs.Night.{relationOf, grantOf, nodeOf, pairOf};
 
 pub struct Opened<'a> {

@@ -3,7 +3,7 @@ use night::Header;
 use night::versions;
 ghost use mathlib.Core.Path.{_≡_};
 ghost use Prim.Native.Nat.{_<_, _+_, _*_};
-ghost use Rattle.layout.specs.Layout.{grantsFrom, nodesFrom, pairsFrom, pairsIn, stepPricesFrom, linkPricesFrom, fileLength};
+ghost use Rattle.format.specs.Layout.{grantsFrom, nodesFrom, pairsFrom, pairsIn, stepPricesFrom, linkPricesFrom, fileLength};
 
 // Where the grants start.
 pub fn grants_from(h: Header) -> usize

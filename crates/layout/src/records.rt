@@ -13,7 +13,7 @@ use night::Relation;
 use night::versions;
 ghost use mathlib.Core.Path.{_≡_};
 ghost use Prim.Native.Nat.{_<_, _^_};
-ghost use Rattle.layout.specs.Layout.{relationAt, grantAt, nodeAt, pairAt, nightIn, nthPrice};
+ghost use Rattle.format.specs.Layout.{relationAt, grantAt, nodeAt, pairAt, nightIn, nthPrice};
 ghost use Rattle.night.specs.Night.{relationOf, grantOf, nodeOf, pairOf};
 
 // Relation i, where the header is h.

@@ -6,7 +6,7 @@ use night::Node;
 use night::Relation;
 ghost use mathlib.Core.Path.{_≡_};
 ghost use Prim.Native.Nat.{_<_, _^_};
-ghost use Rattle.layout.specs.Layout.{relationAt, grantAt, nodeAt};
+ghost use Rattle.format.specs.Layout.{relationAt, grantAt, nodeAt};
 
 // What stands at a place, as each kind of record. One function for all three stays out of line, and leaves the readers of whole records small.
 pub(crate) struct Records {

@@ -10,7 +10,7 @@ use night::Relation;
 use night::versions;
 ghost use mathlib.Core.Path.{_≡_};
 ghost use Prim.Native.Nat.{_<_, _+_, _*_};
-ghost use Rattle.layout.specs.Layout.{headerOf, nightIn, nthPrice};
+ghost use Rattle.format.specs.Layout.{headerOf, nightIn, nthPrice};
 ghost use Rattle.night.specs.Night.{relationOf, grantOf, nodeOf, pairOf, stepPrice, linkPrice, noNode};
 
 // The header's values.

@@ -7,7 +7,7 @@ use night::versions;
 ghost use mathlib.Core.Path.{_≡_};
 ghost use Prim.Native.Nat.{_+_, _<_, _≤_, _^_};
 ghost use lib.ListN.{length};
-ghost use Rattle.layout.specs.Layout.{relationAt, grantAt, nodeAt};
+ghost use Rattle.format.specs.Layout.{relationAt, grantAt, nodeAt};
 
 // A relation's record.
 pub(crate) fn relation_in(file: &[u8], at: usize) -> Relation
@@ -39,6 +39,8 @@ pub(crate) fn node_in(file: &[u8], at: usize, version: u16) -> Node
     ensures { λ r. ⌜ r ≡ nodeAt version (now (file .entry)) at ⌝ }
 {
     let paired = versions::has_pairs(version);
+    let first = bytes::byte_if(paired, file, at + 28);
+    let count = bytes::byte_if(paired, file, at + 29);
     Node {
         kind: file[at],
         left: file[at + 1],
@@ -51,7 +53,7 @@ pub(crate) fn node_in(file: &[u8], at: usize, version: u16) -> Node
         set: bytes::eight_in(file, at + 8),
         needed: bytes::eight_in(file, at + 16),
         size: bytes::four_in(file, at + 24),
-        first: bytes::byte_if(paired, file, at + 28),
-        count: bytes::byte_if(paired, file, at + 29),
+        first,
+        count,
     }
 }

@@ -1,12 +1,16 @@
 -- The tied sets of two operands together: those of the second are tied, one by one, into those of the first.
-use Prim.Native.Nat.{ℕ, zero, suc, _^_, _<_}
+use Prim.Native.Nat.{ℕ, zero, suc, _+_, _^_, _<_}
 use mathlib.Core.Path.{_≡_, refl, sym, ap, _∙_}
-use mathlib.Core.Bool.{false}
+use mathlib.Core.Bool.{Bool, true, false}
 use mathlib.Core.List.{List}
 use mathlib.Core.Logic.{_⊎_, inl, inr, ⊎-elim}
 use native.Mathlib.Nat.{eq-or-lt-of-le, le-of-suc-le-suc}
+use native.Mathlib.Numerals.{add-one}
 use native.Mathlib.Omega.{arith}
+use borrow.Author.Tests.{eqb-true}
+use lib.Dec.{eqb}
 use lib.ListN.{length, getD}
+use Rattle.laws.specs.Choose.{if_then_else_}
 use lib.Seq.{ext-getD}
 use Rattle.laws.proofs.Upwards.{each-length}
 use Rattle.sets.specs.Sets.{In, member, meet, below}
@@ -32,15 +36,40 @@ abbrev So : (ℕ → Type 0) → List ℕ → ℕ → ℕ → Type 0
 So T u n m = T m ⊎ ((k : ℕ) × (k < n) × (m ≡ getD u k 0))
 
 module _ (T S : ℕ → Type 0) (t u : List ℕ) (C : Classes T t) (D : Classes S u) where
-  merged-below : (n : ℕ) → Classes (So T u n) (merged t u n)
-  unfolding merged
-  merged-below zero = same-classes T (So T u 0) t (λ m. inl) (λ m. ⊎-elim (λ h. h) (λ r. absurd (omega (arith, r .1)))) C
-  merged-below (suc n) =
-      same-classes (λ m. (m ≡ getD u n 0) ⊎ So T u n m) (So T u (suc n)) (merged t u (suc n))
+  -- a set more, whatever comes of tying it
+  tied-more : (n : ℕ) → Classes (So T u n) (merged t u n) → Classes (So T u (suc n)) (tie (merged t u n) (getD u n 0))
+  tied-more n before =
+      same-classes (λ m. (m ≡ getD u n 0) ⊎ So T u n m) (So T u (suc n)) (tie (merged t u n) (getD u n 0))
       (λ m. ⊎-elim (λ e. inr (n, omega arith, e)) (⊎-elim inl (λ r. inr (r .0, omega (arith, r .1), r .2))))
       (λ m.
       ⊎-elim (λ h. inr (inl h)) (λ r. ⊎-elim (λ q. inl (r .2 ∙ ap (λ (k : ℕ). getD u k 0) q)) (λ l. inr (inr (r .0, l, r .2))) (eq-or-lt-of-le (le-of-suc-le-suc (r .1)))))
-      (tie-classes (So T u n) (merged t u n) (getD u n 0) (merged-below n) (tied-word S u D n))
+      (tie-classes (So T u n) (merged t u n) (getD u n 0) before (tied-word S u D n))
+
+  -- an empty one links nothing
+  none-more : (n : ℕ) → getD u n 0 ≡ 0 → Classes (So T u n) (merged t u n) → Classes (So T u (suc n)) (merged t u n)
+  none-more n e before =
+      chain-classes (So T u n) (So T u (suc n)) (merged t u n)
+      (λ m. ⊎-elim (C .small m) (λ r. rw (r .2) (tied-word S u D (r .0))))
+      (λ i j. chain-map (λ m. ⊎-elim inl (λ r. inr (r .0, omega (arith, r .1), r .2))))
+      (λ i j. chain-through still)
+      before
+    where
+      still : (m : ℕ) → So T u (suc n) m → (x y : ℕ) → In x m → In y m → Chain (So T u n) x y
+      still m (inl h) x y hx hy = one (inl h) hx hy
+      still m (inr r) x y hx hy =
+          ⊎-elim
+          (λ q. absurd (in-none x (rw (r .2 ∙ ap (λ (k : ℕ). getD u k 0) q ∙ e) at hx)))
+          (λ l. one (inr (r .0, l, r .2)) hx hy)
+          (eq-or-lt-of-le (le-of-suc-le-suc (r .1)))
+
+  merged-below : (n : ℕ) → Classes (So T u n) (merged t u n)
+  unfolding merged
+  merged-below zero = same-classes T (So T u 0) t (λ m. inl) (λ m. ⊎-elim (λ h. h) (λ r. absurd (omega (arith, r .1)))) C
+  merged-below (suc n) = go (merged-below n) (eqb (getD u n 0) 0) refl
+    where
+      go : Classes (So T u n) (merged t u n) → (b : Bool) → eqb (getD u n 0) 0 ≡ b → Classes (So T u (suc n)) (if b then merged t u n else tie (merged t u n) (getD u n 0))
+      go before true q = none-more n (eqb-true (getD u n 0) 0 q) before
+      go before false q = tied-more n before
 
   -- the chains of the second's tied sets are those of the sets that were tied
   out : (m : ℕ) → So T u 64 m → (x y : ℕ) → In x m → In y m → Chain (λ m. T m ⊎ S m) x y
@@ -68,7 +97,11 @@ tie-length t s = each-length _ 64
 pub merged-length : (t u : List ℕ) (n : ℕ) → length t ≡ 64 → length (merged t u n) ≡ 64
 unfolding merged
 merged-length t u zero e = e
-merged-length t u (suc n) e = tie-length (merged t u n) (getD u n 0)
+merged-length t u (suc n) e = go (merged-length t u n e) (eqb (getD u n 0) 0)
+  where
+    go : length (merged t u n) ≡ 64 → (b : Bool) → length (if b then merged t u n else tie (merged t u n) (getD u n 0)) ≡ 64
+    go before true = before
+    go before false = tie-length (merged t u n) (getD u n 0)
 
 -- the empty set meets no tied set
 gathered-empty : (t : List ℕ) (n : ℕ) → gathered t 0 n ≡ 0
@@ -82,3 +115,12 @@ tie-empty t e = ext-getD 0 (tie t 0) t (tie-length t 0 ∙ sym e) (λ k l. tie-k
   where
     nowhere : (k : ℕ) → member (gathered t 0 64) k ≡ false
     nowhere k = rw (gathered-empty t 64) (out-member 0 k (in-none k))
+
+-- so one tied set more is merged, empty or not
+pub merged-more : (t u : List ℕ) (n : ℕ) → length t ≡ 64 → merged t u (n + 1) ≡ tie (merged t u n) (getD u n 0)
+unfolding merged
+merged-more t u n e = rw add-one (go (eqb (getD u n 0) 0) refl)
+  where
+    go : (b : Bool) → eqb (getD u n 0) 0 ≡ b → (if b then merged t u n else tie (merged t u n) (getD u n 0)) ≡ tie (merged t u n) (getD u n 0)
+    go true q = rw (eqb-true (getD u n 0) 0 q) (sym (tie-empty (merged t u n) (merged-length t u n e)))
+    go false q = refl

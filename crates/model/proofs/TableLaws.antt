@@ -30,14 +30,10 @@ pub gathered-more : (t : List ℕ) (s n : ℕ) → gathered t s (n + 1) ≡ (if 
 unfolding gathered
 gathered-more t s n = rw add-one refl
 
--- one tied set more is merged
+-- no tied set is merged
 pub merged-none : (t u : List ℕ) → merged t u 0 ≡ t
 unfolding merged
 merged-none t u = refl
-
-pub merged-more : (t u : List ℕ) (n : ℕ) → merged t u (n + 1) ≡ tie (merged t u n) (getD u n 0)
-unfolding merged
-merged-more t u n = rw add-one refl
 
 -- sets
 pub meet-none : (a : ℕ) → meet 0 a ≡ 0

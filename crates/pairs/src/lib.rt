@@ -3,7 +3,6 @@ use layout::values;
 use night::Header;
 use night::Node;
 use night::Pair;
-use rules::kinds;
 use rules::nodes;
 use sets::attributes;
 ghost use Prim.Native.Nat.{_+_};
@@ -12,10 +11,10 @@ ghost use mathlib.Core.List.{map};
 ghost use lib.ListN.{getD};
 ghost use Rattle.laws.specs.Choose.{anyOf};
 ghost use Rattle.laws.specs.First.{somewhere};
-ghost use Rattle.layout.specs.Layout.{nightIn};
+ghost use Rattle.format.specs.Layout.{nightIn};
 ghost use Rattle.night.specs.Night.{Night};
 ghost use Rattle.night.specs.Kinds.{itsPair, pairsRead, reads, readTogether};
-ghost use Rattle.rules.specs.Rules.{pairBad, pairsBad, half, neededBad};
+ghost use Rattle.trials.specs.Rules.{pairBad, pairsBad, half, neededBad};
 
 // Of the pairs that the node names, number k.
 fn its_pair(file: &[u8], h: Header, v: Node, k: u8) -> Pair

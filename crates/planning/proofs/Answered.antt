@@ -9,10 +9,10 @@ use Rattle.laws.specs.Trials.{answers, refuses, verdict, Passes}
 use Rattle.laws.specs.Upwards.{each}
 use Rattle.laws.proofs.Trials.{passed, passes-accepts, passed-then, refused-then, passes-append, refused-alike, accepted-alike}
 use Rattle.sets.proofs.Members.{in-none, same-members}
-use Rattle.layout.proofs.Sections.{node-past}
+use Rattle.format.proofs.Sections.{node-past}
 use Rattle.night.specs.declared.Header.{Header}
 use Rattle.night.specs.Promised.{Promised}
-use Rattle.layout.specs.Layout.{headerOf, nightIn, nightOf}
+use Rattle.format.specs.Layout.{headerOf, nightIn, nightOf}
 use Rattle.model.specs.Candidates.{candidateSet}
 use Rattle.model.specs.Choice.{total}
 use Rattle.verdicts.specs.Refusals.{choiceTrials, choosingOf, candidateTrials, stepsTrials, offerTrials, cheapestTrials, offeredTrials, Rooms, cheapestPlanTrials, offeredPlanTrials}

@@ -10,7 +10,7 @@ use Rattle.sets.specs.Sets.{In}
 use Rattle.night.specs.declared.Header.{Header}
 use Rattle.night.specs.Night.{Night, nodeOf}
 use Rattle.night.specs.Views.{clearOf, sealedOf}
-use Rattle.layout.specs.Layout.{nightOf}
+use Rattle.format.specs.Layout.{nightOf}
 use Rattle.model.specs.Candidates.{Candidate, candidateSet}
 use Rattle.model.specs.Choice.{Choice, Least, total, steps}
 use Rattle.model.specs.Plan.{built, planRoom, keysRoom}

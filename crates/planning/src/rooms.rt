@@ -10,7 +10,7 @@ ghost use lib.Dec.{ltb};
 ghost use lib.ListN.{length, getD, drop};
 ghost use Rattle.laws.specs.Choose.{if_then_else_};
 ghost use Rattle.laws.specs.Upwards.{each};
-ghost use Rattle.layout.specs.Layout.{nightIn};
+ghost use Rattle.format.specs.Layout.{nightIn};
 ghost use Rattle.night.specs.Promised.{Promised};
 ghost use Rattle.model.specs.Plan.{inTurn};
 ghost use Rattle.eligible.specs.Answers.{BuiltFor};

@@ -6,7 +6,7 @@ use native.Mathlib.Omega.{arith}
 use lib.ListN.{length, take, drop, length-take, length-drop}
 use Rattle.laws.specs.Trials.{Says, answers, refuses}
 use Rattle.night.specs.declared.Header.{Header}
-use Rattle.layout.specs.Layout.{grantsFrom, nodesFrom, nightIn}
+use Rattle.format.specs.Layout.{grantsFrom, nodesFrom, nightIn}
 use Rattle.reading.specs.Answers.{grantsPart, EmptyWhenRefused, SaidOnce}
 use Rattle.trials.specs.Trials.{checkOf}
 use Rattle.reading.specs.declared.Checked.the-variants.{Accepted, Refused}

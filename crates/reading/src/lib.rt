@@ -11,7 +11,7 @@ use night::Header;
 ghost use mathlib.Core.Path.{_≡_};
 ghost use Rattle.reading.specs.Answers.{saidOf, refusedBy, grantsPart, numberOf, placeOf, GrantsTold};
 ghost use Rattle.laws.specs.Trials.{verdict};
-ghost use Rattle.layout.specs.Layout.{headerOf};
+ghost use Rattle.format.specs.Layout.{headerOf};
 ghost use Rattle.trials.specs.Trials.{headerTrials, checkOf};
 
 // What is said of a file: the header's values where it is accepted, or the first refusal.

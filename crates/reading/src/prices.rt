@@ -7,7 +7,7 @@ use rules::records;
 ghost use Prim.Native.Nat.{_+_, _<_};
 ghost use mathlib.Core.Path.{_≡_};
 ghost use Rattle.laws.specs.Trials.{verdict};
-ghost use Rattle.layout.specs.Layout.{nightIn};
+ghost use Rattle.format.specs.Layout.{nightIn};
 ghost use Rattle.reading.specs.Answers.{triedOf};
 ghost use Rattle.trials.specs.Trials.{priceIn, mostIn, trialsOf};
 ghost use Rattle.trials.specs.declared.Section.the-variants.{Prices};

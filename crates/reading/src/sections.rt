@@ -9,7 +9,7 @@ ghost use Prim.Native.Nat.{_<_, _≤_};
 ghost use mathlib.Core.Path.{_≡_};
 ghost use mathlib.Core.List.{_++_};
 ghost use Rattle.laws.specs.Trials.{verdict};
-ghost use Rattle.layout.specs.Layout.{nightIn};
+ghost use Rattle.format.specs.Layout.{nightIn};
 ghost use Rattle.reading.specs.Answers.{triedOf};
 ghost use Rattle.reading.specs.HasVisible.{HasVisible};
 ghost use Rattle.trials.specs.Trials.{countIn, trialsOf, section, recordTrials, treeTrials};

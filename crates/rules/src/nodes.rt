@@ -1,5 +1,4 @@
 // Nodes that break a rule.
-use crate::kinds;
 use night::Header;
 use night::Node;
 use night::Pair;
@@ -11,7 +10,7 @@ ghost use mathlib.Core.Bool.{false, not};
 ghost use mathlib.Core.List.{[], _∷_};
 ghost use lib.Dec.{eqb, ltb};
 ghost use Rattle.laws.specs.Choose.{if_then_else_, anyOf};
-ghost use Rattle.rules.specs.Rules.{childBad, leftBad, rightBad, unusedBad, namesBad, shapeBad, leafBad, xBad, yBad, setBad, placeBad, stepBad, pairBad, half};
+ghost use Rattle.trials.specs.Rules.{childBad, leftBad, rightBad, unusedBad, namesBad, shapeBad, leafBad, xBad, yBad, setBad, placeBad, stepBad, pairBad, half};
 
 // 8: whether c can be no child of node i.
 fn child_bad(i: usize, taken: bool, c: u8) -> bool

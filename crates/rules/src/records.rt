@@ -5,7 +5,7 @@ use night::Relation;
 use night::versions;
 use sets::attributes;
 ghost use mathlib.Core.Path.{_≡_};
-ghost use Rattle.rules.specs.Rules.{userBad, countsBad, relationBad, leftOver, subjectThere, grantBad, ownerBad, mostForStep, mostForLink};
+ghost use Rattle.trials.specs.Rules.{userBad, countsBad, relationBad, leftOver, subjectThere, grantBad, ownerBad, mostForStep, mostForLink};
 
 // 4: whether the user, in a version that has one, is no subject.
 fn user_bad(h: Header) -> bool

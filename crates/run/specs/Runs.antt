@@ -207,6 +207,9 @@ pub record Runs : Type 0 where
   pub user-opens : Unclean (userSees 2 1 two) (plan [] [] (0 ∷ 1 ∷ []))
   pub user-opens-early : Unclean (userSees 2 1 two) (plan [] [] (1 ∷ []))
   pub user-unheld : Unclean (seenIn 2 16 16 3 0 two) (plan [] [] (1 ∷ []))
+  -- also where it ran the root itself; and a leaf alone
+  pub user-opens-own : Unclean (userSees 2 1 two) (plan (0 ∷ 1 ∷ []) [] (1 ∷ []))
+  pub user-leaf-clear : Unclean (userSees 2 1 (leaf 0 3 ∷ [])) (plan [] [] [])
   -- on arrival: attribute 0 sealed, which the user doesn't see; it is forbidden after opening too, so no run tells the two apart
   pub user-takes : DeliveryFails (userSees 2 0 two) (plan [] [] (1 ∷ []))
   -- the user holds the key of attribute 0 where the leaf or the root sealed it, and where it ran the root itself; not where it arrives in clear, nor

@@ -1,7 +1,6 @@
 // Tables made of other tables: least views, operands joined, results. What is said of the columns holds whatever is tied.
 use crate::Columns;
 use night::Node;
-use rules::kinds;
 use sets::attributes;
 ghost use Prim.Native.Nat.{ℕ};
 ghost use mathlib.Core.Path.{_≡_};

@@ -3,7 +3,7 @@ use Prim.Native.Nat.{ℕ, _-_}
 use mathlib.Core.Path.{_≡_, refl}
 use Rattle.laws.specs.Trials.{Says, answers, refuses}
 use Rattle.night.specs.declared.Header.{Header}
-use Rattle.layout.specs.Layout.{grantsFrom, nodesFrom}
+use Rattle.format.specs.Layout.{grantsFrom, nodesFrom}
 use Rattle.tollburrow.specs.Codes.{refusalCode, codeOf, orElse, partFrom, partLength}
 
 -- a refusal returns its code and leaves what stood there; an answer returns 0 and writes it

@@ -5,7 +5,7 @@ use mathlib.Core.List.{List, _++_}
 use native.Mathlib.Omega.{arith}
 use Rattle.laws.specs.Trials.{Trial, Says, answers, refuses, verdict}
 use Rattle.laws.proofs.Trials.{passed, passed-then, refused-then, refused-alike, AllTrials, all-refused, all-map, all-append}
-use Rattle.layout.specs.Layout.{fileLength, headerOf, asRead, nightOf}
+use Rattle.format.specs.Layout.{fileLength, headerOf, asRead, nightOf}
 use Rattle.model.specs.Candidates.{candidateSet}
 use Rattle.trials.specs.Trials.{recordTrials, treeTrials, trials, checkOf}
 use Rattle.verdicts.specs.Refusals.{whyTrials}

@@ -5,7 +5,7 @@ use mathlib.Core.Path.{_≡_}
 use mathlib.Core.List.{List}
 use Rattle.laws.specs.Trials.{Says, answers, refuses}
 use Rattle.night.specs.declared.Header.{Header}
-use Rattle.layout.specs.Layout.{grantsFrom, nodesFrom}
+use Rattle.format.specs.Layout.{grantsFrom, nodesFrom}
 use Rattle.model.specs.declared.Standing.{Standing}
 use Rattle.model.specs.declared.Standing.the-variants.{Candidate, Out}
 use Rattle.planning.specs.declared.CheapestPlan.{CheapestPlan}

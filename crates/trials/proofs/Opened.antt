@@ -9,8 +9,8 @@ use Rattle.laws.specs.Trials.{answers, refuses, verdict}
 use Rattle.laws.proofs.Cases.{none-of}
 use Rattle.laws.proofs.Trials.{passed, passed-then, refused-then, refused-alike, accepted-alike}
 use Rattle.night.specs.declared.Header.{Header}
-use Rattle.layout.specs.Layout.{grantsFrom, nodesFrom, pairsFrom, stepPricesFrom, linkPricesFrom, fileLength, headerOf, nightIn}
-use Rattle.rules.specs.Rules.{countsBad}
+use Rattle.format.specs.Layout.{grantsFrom, nodesFrom, pairsFrom, stepPricesFrom, linkPricesFrom, fileLength, headerOf, nightIn}
+use Rattle.trials.specs.Rules.{countsBad}
 use Rattle.trials.specs.Trials.{headerTrials, recordTrials, treeTrials, trials, checkOf}
 
 module _ (s : List ℕ) where

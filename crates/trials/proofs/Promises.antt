@@ -6,7 +6,7 @@ use Rattle.laws.specs.Trials.{answers}
 use Rattle.laws.proofs.Trials.{passed, passes-append}
 use Rattle.night.specs.declared.Header.{Header}
 use Rattle.night.specs.Promised.{Promised}
-use Rattle.layout.specs.Layout.{headerOf, nightIn, nightOf}
+use Rattle.format.specs.Layout.{headerOf, nightIn, nightOf}
 use Rattle.trials.specs.Trials.{headerTrials, section, recordTrials, treeTrials, trials, checkOf, AcceptedPromises}
 use Rattle.trials.specs.declared.Section.the-variants.{Relations, Grants, Owners, Nodes, Parents, Prices}
 use Rattle.trials.proofs.Opened.{accepted-header}

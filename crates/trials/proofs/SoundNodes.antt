@@ -21,7 +21,7 @@ use Rattle.night.specs.Night.{Night, relationOf, nodeOf}
 use Rattle.night.specs.Kinds.{usesLeft, usesRight, usesX, usesSet, usesPairs, itsPair, reads, readTogether, visible, isChild, taken}
 use Rattle.night.specs.Promised.{SoundNode, AllOrNone}
 use Rattle.night.proofs.Children.{is-child}
-use Rattle.rules.specs.Rules.{childBad, leftBad, rightBad, shapeBad, leafBad, xBad, yBad, setBad, placeBad, stepBad, pairBad, pairsBad, half, neededBad}
+use Rattle.trials.specs.Rules.{childBad, leftBad, rightBad, shapeBad, leafBad, xBad, yBad, setBad, placeBad, stepBad, pairBad, pairsBad, half, neededBad}
 use Rattle.trials.specs.Trials.{isLeafOf, leafBefore, attributesBad, countIn, trialsOf, section}
 use Rattle.trials.specs.declared.Section.the-variants.{Nodes, Parents}
 

@@ -9,7 +9,7 @@ use Rattle.laws.specs.Choose.{if_then_else_}
 use Rattle.laws.specs.Trials.{Passes}
 use Rattle.laws.proofs.Trials.{passes-row}
 use Rattle.night.specs.Night.{Night, nodeOf, stepPrice, linkPrice}
-use Rattle.rules.specs.Rules.{mostForStep, mostForLink}
+use Rattle.trials.specs.Rules.{mostForStep, mostForLink}
 use Rattle.trials.specs.Trials.{priceIn, mostIn, countIn, trialsOf, section}
 use Rattle.trials.specs.declared.Section.the-variants.{Prices}
 

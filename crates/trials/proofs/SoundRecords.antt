@@ -20,7 +20,7 @@ use Rattle.night.specs.Views.{anySubject, isFor, viewOf}
 use Rattle.night.proofs.Views.{is-for, no-grants}
 use Rattle.night.specs.Versions.{delivers}
 use Rattle.night.specs.Promised.{SoundCounts, SoundRelation, SoundGrant}
-use Rattle.rules.specs.Rules.{userBad, countsBad, relationBad, leftOver, subjectThere, grantBad, ownerBad}
+use Rattle.trials.specs.Rules.{userBad, countsBad, relationBad, leftOver, subjectThere, grantBad, ownerBad}
 use Rattle.trials.specs.Trials.{takenBefore, pairSeen, countIn, trialsOf, section}
 use Rattle.trials.specs.declared.Section.the-variants.{Relations, Grants, Owners}
 

@@ -90,3 +90,14 @@ threePairs = 200 ∷ 64 ∷ 0 ∷ 2 ∷ 1 ∷ 3 ∷ []
 -- a join on the second and the third, which needs this in clear
 abbrev pub paired : ℕ → List ℕ
 paired needed = pairing 3 (joining 1 2 needed) threePairs
+
+-- a file of version 3 in which two joins name one pair, of which both attributes are visible in the later one's left operand
+abbrev pub namedTwice : List ℕ
+namedTwice =
+    65 ∷ 88 ∷ 80 ∷ 0 ∷ 3 ∷ 1 ∷ 3 ∷ 3 ∷ 5 ∷ 0 ∷ 3 ∷ 0 ∷ 0 ∷ 0 ∷ 9 ∷ 0 ∷ 1
+    ∷ (aRelation 0 1 ++ aRelation 0 2 ++ aRelation 0 4
+    ++ aGrant 0 0 1 0 ++ aGrant 1 0 2 0 ++ aGrant 2 0 4 0
+    ++ naming 0 0 (aNode 0 255 255 0 255 1 0) ++ naming 0 0 (aNode 0 255 255 1 255 2 0) ++ naming 0 0 (aNode 0 255 255 2 255 4 0)
+    ++ naming 0 1 (aNode 9 0 1 255 255 0 0) ++ naming 0 1 (aNode 9 3 2 255 255 0 0)
+    ++ (0 ∷ 1 ∷ [])
+    ++ replicate 24 0)

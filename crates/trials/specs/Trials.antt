@@ -16,8 +16,8 @@ use Rattle.night.specs.Night.{Night, relationOf, grantOf, nodeOf, stepPrice, li
 use Rattle.night.specs.Kinds.{visible, taken}
 use Rattle.night.specs.Views.{isFor, viewOf}
 use Rattle.night.specs.Promised.{Promised}
-use Rattle.rules.specs.Rules.{countsBad, relationBad, leftOver, grantBad, ownerBad, shapeBad, leafBad, stepBad, pairsBad, neededBad, mostForStep, mostForLink}
-use Rattle.layout.specs.Layout.{fileLength, headerOf, nightOf}
+use Rattle.trials.specs.Rules.{countsBad, relationBad, leftOver, grantBad, ownerBad, shapeBad, leafBad, stepBad, pairsBad, neededBad, mostForStep, mostForLink}
+use Rattle.format.specs.Layout.{fileLength, headerOf, nightOf}
 use Rattle.trials.specs.declared.Section.{Section}
 use Rattle.trials.specs.declared.Section.the-variants.{Relations, Grants, Owners, Nodes, Parents, Prices}
 

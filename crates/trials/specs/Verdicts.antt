@@ -5,11 +5,11 @@ use mathlib.Core.List.{List, [], _∷_, _++_}
 use lib.ListN.{take, set, replicate}
 use Rattle.laws.specs.InOrder.{inOrder}
 use Rattle.laws.specs.Trials.{answers, refuses}
-use Rattle.layout.specs.Layout.{headerOf}
+use Rattle.format.specs.Layout.{headerOf}
 use Rattle.trials.specs.Trials.{checkOf}
 use Rattle.trials.specs.Sample.{sample}
 use Rattle.trials.specs.Small.{small, withUser, relationByte, grantByte, nodeByte, priceByte, parentless, twoParentless}
-use Rattle.trials.specs.Small.{aNode, naming, pairing, joining, threePairs, paired}
+use Rattle.trials.specs.Small.{aNode, naming, pairing, joining, threePairs, paired, namedTwice}
 
 -- the file is refused with this number and place
 abbrev pub Refused : List ℕ → ℕ → ℕ → Type 0
@@ -159,6 +159,8 @@ pub record FileVerdicts : Type 0 where
   pub pair-left-beyond : Refused (pairing 1 (joining 0 1 0) (64 ∷ 2 ∷ [])) 9 2
   pub pair-right-beyond : Refused (pairing 1 (joining 0 1 0) (0 ∷ 66 ∷ [])) 9 2
   pub eighth-hidden : Refused (pairing 9 (joining 1 8 0) (0 ∷ 0 ∷ (pairsOf 7 ++ (1 ∷ 1 ∷ [])))) 9 2
+  -- two nodes that name one pair: the later
+  pub pair-named-twice : Refused namedTwice 9 4
   pub names-before-pairs : Refused (pairing 1 (joining 0 2 0) (2 ∷ 0 ∷ [])) 8 2
   -- 10: a needed set outside what is read; half of what is read together; the node
   pub needed-unread : Refused (set small (nodeByte 2 23) 1) 10 2

@@ -12,8 +12,8 @@ use Rattle.night.specs.Versions.{known, delivers, headerLength, hasPairs, nodeL
 use Rattle.night.specs.Night.{relationOf, grantOf, nodeOf, stepPrice, linkPrice, pairOf}
 use Rattle.night.specs.Kinds.{usesLeft, usesRight, usesX, usesY, usesSet, usesPairs, itsPair, bothOf, pairsRead, reads, readTogether, visibleAfter, visibleStep, visibles, isChild, taken}
 use Rattle.night.specs.Views.{isFor, grantFor, viewOf, clearOf, sealedOf}
-use Rattle.rules.specs.Rules.{userBad, countsBad, relationBad, leftOver, subjectThere, grantBad, ownerBad, childBad, leftBad, rightBad, unusedBad, shapeBad, leafBad, xBad, yBad, setBad, placeBad, stepBad, half, neededBad, mostForStep, mostForLink, namesBad, pairBad, pairsBad}
-use Rattle.layout.specs.Layout.{grantsFrom, nodesFrom, stepPricesFrom, linkPricesFrom, fileLength, headerOf, relationAt, grantAt, nodeAt, pricesAt, nightIn, pairsFrom, pairsIn, pairAt}
+use Rattle.trials.specs.Rules.{userBad, countsBad, relationBad, leftOver, subjectThere, grantBad, ownerBad, childBad, leftBad, rightBad, unusedBad, shapeBad, leafBad, xBad, yBad, setBad, placeBad, stepBad, half, neededBad, mostForStep, mostForLink, namesBad, pairBad, pairsBad}
+use Rattle.format.specs.Layout.{grantsFrom, nodesFrom, stepPricesFrom, linkPricesFrom, fileLength, headerOf, relationAt, grantAt, nodeAt, pricesAt, nightIn, pairsFrom, pairsIn, pairAt}
 use Rattle.model.specs.Ties.{gathered, tie, merged}
 use Rattle.model.specs.Tables.{leastView, tests, ties, joined, result, leafTable, stepTable, tableStep, tables, tableOf}
 use Rattle.model.specs.Candidates.{clearOffends, sealedOffends, tiedOffends, may, mayTake, isCandidate, candidateSet}
@@ -79,4 +79,10 @@ verdicts =
       asked-past = refl;
       asked-far = refl;
       asked-subject = refl;
+      pairs-may = refl;
+      pairs-user-sealed = refl;
+      pairs-user-blind = refl;
+      pairs-steps-short = refl;
+      pairs-offered = refl;
+      pairs-offer-candidate = refl;
     }

@@ -11,8 +11,8 @@ use Rattle.laws.proofs.Cases.{none-of}
 use Rattle.laws.proofs.Trials.{passed, passed-then, refused-then, AllTrials, all-refused, all-map, all-append, all-rows}
 use Rattle.night.specs.declared.Header.{Header}
 use Rattle.night.specs.Night.{Night}
-use Rattle.layout.specs.Layout.{headerOf, nightIn, nightOf}
-use Rattle.rules.specs.Rules.{countsBad}
+use Rattle.format.specs.Layout.{headerOf, nightIn, nightOf}
+use Rattle.trials.specs.Rules.{countsBad}
 use Rattle.trials.specs.declared.Section.{Section}
 use Rattle.trials.specs.declared.Section.the-variants.{Relations, Grants, Owners, Nodes, Parents, Prices}
 use Rattle.trials.specs.Trials.{headerTrials, countIn, trialsOf, section, leftTrials, recordTrials, treeTrials, trials}

@@ -5,7 +5,7 @@ use mathlib.Core.Bool.{Bool, true, false}
 use mathlib.Core.List.{List, _++_, append-assoc}
 use native.Mathlib.Omega.{arith}
 use lib.Dec.{eqb}
-use borrow.Author.Tests.{eqb-false, eq-eqb, ne-eqb, not-false}
+use borrow.Author.Tests.{eqb-false, eqb-true, eq-eqb, ne-eqb, not-false}
 use Rattle.laws.specs.Choose.{if_then_else_}
 use Rattle.laws.specs.Trials.{Trial, Says, answers, refuses, verdict}
 use Rattle.laws.proofs.Trials.{passed, passed-then, refused-then, passes-append, passes-row, passes-accepts, accepted-alike, all-refused, all-rows, rows-pass, AllTrials}
@@ -14,7 +14,7 @@ use Rattle.night.specs.declared.Header.{Header}
 use Rattle.night.specs.Versions.{delivers}
 use Rattle.night.specs.Night.{Night, nodeOf}
 use Rattle.night.specs.Promised.{Promised}
-use Rattle.layout.specs.Layout.{headerOf, nightIn, nightOf}
+use Rattle.format.specs.Layout.{headerOf, nightIn, nightOf}
 use Rattle.model.specs.Candidates.{candidateSet}
 use Rattle.model.specs.User.{UserMay}
 use Rattle.model.proofs.May.{may-exactly}
@@ -22,7 +22,7 @@ use Rattle.model.proofs.User.{user-candidate}
 use Rattle.trials.specs.Trials.{trials, checkOf}
 use Rattle.trials.proofs.Promises.{accepted-promises}
 use Rattle.verdicts.specs.Refusals.{keptFromUser, userTrials, withoutCandidate, candidateTrials, stepsTrials, choiceRoomTrials, planRoomTrials, keysRoomTrials, Rooms, choiceTrials, choosingOf, cheapestTrials, cheapestPlanTrials}
-use Rattle.verdicts.specs.User.{PassesMay, NobodyAsked, NeverWithout}
+use Rattle.verdicts.specs.User.{PassesMay, MayPasses, NobodyAsked, NeverWithout}
 use Rattle.verdicts.proofs.Fit.{after-trials}
 
 -- a file that passes 17 passes 1 to 11
@@ -39,6 +39,21 @@ passes-may s h e d i l z =
     let q = passes-append (trials s) _ (passed (choiceTrials s) (headerOf s) h e .0) .1 in
     let t = passes-row _ (N .header .nodes) i l q .0 in
     may-exactly _ _ _ .0 (not-false _ (rw (d, eq-eqb (nodeOf N i .kind) 0 z) at t))
+
+pub may-passes : MayPasses
+unfolding choosingOf choiceTrials checkOf userTrials keptFromUser nightIn
+may-passes s h q may =
+    passed-then (trials s) _ (tt {0}) (headerOf s) (accepted-alike (trials s) (headerOf s) h (tt {0}) q)
+    ∙ accepted-alike (userTrials (nightOf s)) (tt {0}) (tt {0}) (headerOf s) none
+    ∙ sym (accepted-alike (trials s) (headerOf s) h (headerOf s) q) ∙ q
+  where
+    kept : (i : ℕ) → i < nightOf s .header .nodes → (d b : Bool) → delivers (nightOf s .header .version) ≡ d → eqb (nodeOf (nightOf s) i .kind) 0 ≡ b → keptFromUser (nightOf s) i ≡ false
+    kept i l false b e f = rw e refl
+    kept i l true false e f = rw (e, f) refl
+    kept i l true true e f = rw (e, f, may-exactly _ _ _ .1 (may e i l (eqb-true _ _ f))) refl
+
+    none : verdict (userTrials (nightOf s)) (tt {0}) ≡ answers tt
+    none = rows-pass (keptFromUser (nightOf s)) 17 (nightOf s .header .nodes) (λ i l. kept i l _ _ refl refl)
 
 pub nobody-asked : NobodyAsked
 unfolding choosingOf choiceTrials checkOf userTrials keptFromUser nightIn

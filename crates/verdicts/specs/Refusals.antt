@@ -12,7 +12,7 @@ use Rattle.night.specs.Versions.{delivers}
 use Rattle.night.specs.Night.{Night, nodeOf}
 use Rattle.night.specs.Kinds.{aLeaf}
 use Rattle.night.specs.Views.{clearOf, sealedOf}
-use Rattle.layout.specs.Layout.{headerOf, nightOf}
+use Rattle.format.specs.Layout.{headerOf, nightOf}
 use Rattle.model.specs.Tables.{tableOf}
 use Rattle.model.specs.Candidates.{may, candidateSet}
 use Rattle.model.specs.Choice.{ownerOf, steps}

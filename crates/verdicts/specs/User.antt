@@ -6,7 +6,7 @@ use mathlib.Core.List.{List}
 use Rattle.laws.specs.Trials.{answers, refuses, verdict}
 use Rattle.night.specs.declared.Header.{Header}
 use Rattle.night.specs.Versions.{delivers}
-use Rattle.layout.specs.Layout.{headerOf, nightOf}
+use Rattle.format.specs.Layout.{headerOf, nightOf}
 use Rattle.model.specs.User.{UserMay}
 use Rattle.trials.specs.Trials.{checkOf}
 use Rattle.verdicts.specs.Refusals.{Rooms, choosingOf, cheapestPlanTrials}
@@ -14,6 +14,10 @@ use Rattle.verdicts.specs.Refusals.{Rooms, choosingOf, cheapestPlanTrial
 -- in a file that passes 1 to 11 and 17, the user may have every leaf's table
 abbrev pub PassesMay : Type 0
 PassesMay = (s : List ℕ) (h : Header) → choosingOf s ≡ answers h → UserMay (nightOf s)
+
+-- and no other file is refused with 17: what passes 1 to 11, its user allowed every leaf's table, passes
+abbrev pub MayPasses : Type 0
+MayPasses = (s : List ℕ) (h : Header) → checkOf s ≡ answers h → UserMay (nightOf s) → choosingOf s ≡ answers h
 
 -- in a version without a user nothing is asked beyond 1 to 11
 abbrev pub NobodyAsked : Type 0

@@ -4,7 +4,7 @@ use mathlib.Core.Path.{_≡_}
 use mathlib.Core.List.{List, [], _∷_, _++_}
 use lib.ListN.{set, replicate}
 use Rattle.laws.specs.Trials.{Says, answers, refuses, verdict}
-use Rattle.trials.specs.Small.{withUser, aRelation, aGrant, aNode, small}
+use Rattle.trials.specs.Small.{withUser, aRelation, aGrant, aNode, small, paired}
 use Rattle.trials.specs.Verdicts.{FileVerdicts}
 use Rattle.verdicts.specs.Refusals.{Rooms, cheapestPlanTrials, offeredPlanTrials, whyTrials}
 
@@ -49,6 +49,10 @@ unseen allowed =
     ∷ (aRelation 0 1 ++ aRelation 1 2 ++ aGrant 0 0 1 0 ++ aGrant 1 1 2 0
     ++ aNode 0 255 255 0 255 1 0 ++ aNode 2 0 255 0 255 0 0 ++ aNode 0 255 255 1 255 2 0 ++ aNode 4 1 2 255 255 0 0 ++ aNode 2 3 255 0 255 0 0
     ++ replicate 56 0)
+
+-- the join on two pairs where any sees the second relation in clear, so that subject 0, its user, may have both leaves; subject 0 alone may run it: two steps
+abbrev pub joinedOnPairs : ℕ → List ℕ
+joinedOnPairs allowed = set (set (set (paired 0) 98 12) 106 0) 14 allowed
 
 pub record Verdicts : Type 0 where
   -- 1 to 11
@@ -115,3 +119,10 @@ pub record Verdicts : Type 0 where
   pub asked-past : why (selected 1) 2 0 ≡ refuses 16 2
   pub asked-far : why (selected 1) 257 0 ≡ refuses 16 257
   pub asked-subject : why (unseen 0) 3 2 ≡ refuses 16 3
+  -- in version 3: the user may have both leaves, may not have one, and what comes after it
+  pub pairs-may : cheapest (joinedOnPairs 2) (room 3 6 8) ≡ answers tt
+  pub pairs-user-sealed : cheapest (paired 0) (room 3 6 8) ≡ refuses 17 1
+  pub pairs-user-blind : cheapest (set (joinedOnPairs 0) 15 1) (room 0 0 0) ≡ refuses 17 0
+  pub pairs-steps-short : cheapest (joinedOnPairs 1) (room 3 6 8) ≡ refuses 13 0
+  pub pairs-offered : offered (joinedOnPairs 0) (0 ∷ 1 ∷ 0 ∷ []) (room 0 6 8) ≡ answers tt
+  pub pairs-offer-candidate : offered (joinedOnPairs 0) (0 ∷ 1 ∷ 1 ∷ []) (room 0 6 8) ≡ refuses 14 2

@@ -8,7 +8,7 @@ use night::View;
 ghost use mathlib.Core.Path.{_≡_};
 ghost use Prim.Native.Nat.{min};
 ghost use Rattle.laws.specs.First.{first};
-ghost use Rattle.layout.specs.Layout.{nightIn};
+ghost use Rattle.format.specs.Layout.{nightIn};
 ghost use Rattle.night.specs.Night.{grantOf};
 ghost use Rattle.night.specs.Views.{isFor, seenBy, viewOf};
 ghost use Rattle.views.specs.Stretch.{atOnce};

@@ -22,8 +22,8 @@ use Rattle.laws.proofs.Upwards.{each-length, each-same, each-self, each-holds}
 use Rattle.night.specs.declared.Header.{Header}
 use Rattle.night.specs.Versions.{delivers, headerLength, nodeLength}
 use Rattle.night.specs.Night.{noRelation, noGrant, noNode}
-use Rattle.layout.specs.Layout.{grantsFrom, nodesFrom, pairsFrom, pairsIn, stepPricesFrom, linkPricesFrom, fileLength, headerOf, asRead, headerBytes, relationAt, relationBytes, grantAt, grantBytes, nodeAt, nodeBytes, nightIn, nightOf}
-use Rattle.layout.proofs.Written.{header-again, relation-again, grant-again, node-again}
+use Rattle.format.specs.Layout.{grantsFrom, nodesFrom, pairsFrom, pairsIn, stepPricesFrom, linkPricesFrom, fileLength, headerOf, asRead, headerBytes, relationAt, relationBytes, grantAt, grantBytes, nodeAt, nodeBytes, nightIn, nightOf}
+use Rattle.format.proofs.Written.{header-again, relation-again, grant-again, node-again}
 use Rattle.trials.specs.Trials.{notMarked, headerTrials, recordTrials, treeTrials, trials, checkOf}
 use Rattle.writes.specs.Values.{Values, bytesFrom, pricesFrom, fileBytes, valuesOf}
 use Rattle.writes.specs.Writing.{miscounted, miscountedBy, writeTrials, writeOf, judgedBy, rewriteOf}

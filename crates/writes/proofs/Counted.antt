@@ -11,8 +11,8 @@ use Rattle.laws.proofs.BigEndian.{bytes-length}
 use Rattle.laws.proofs.Cases.{none-of}
 use Rattle.laws.proofs.InOrder.{in-order-length}
 use Rattle.night.specs.Versions.{nodeLength}
-use Rattle.layout.specs.Layout.{grantsFrom, nodesFrom, pairsFrom, pairsIn, stepPricesFrom, linkPricesFrom, fileLength, relationBytes, grantBytes, nodeBytes}
-use Rattle.layout.proofs.Written.{header-long, relation-long, grant-long, node-long}
+use Rattle.format.specs.Layout.{grantsFrom, nodesFrom, pairsFrom, pairsIn, stepPricesFrom, linkPricesFrom, fileLength, relationBytes, grantBytes, nodeBytes}
+use Rattle.format.proofs.Written.{header-long, relation-long, grant-long, node-long}
 use Rattle.writes.specs.Values.{Values, fileBytes}
 use Rattle.writes.specs.Writing.{miscounted, miscountedBy}
 use Rattle.writes.specs.Back.{AsLong}

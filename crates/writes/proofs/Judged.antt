@@ -13,9 +13,9 @@ use Rattle.laws.proofs.Cases.{eq-fine, last-is}
 use Rattle.laws.proofs.Trials.{never, passed, passes-append, passed-then, refused-then, refused-alike, accepted-alike, append-alike}
 use Rattle.night.specs.declared.Header.{Header}
 use Rattle.night.specs.Versions.{known, delivers, headerLength}
-use Rattle.layout.specs.Layout.{grantsFrom, nodesFrom, pairsFrom, stepPricesFrom, linkPricesFrom, fileLength, headerOf, asRead, headerBytes, nightOf}
-use Rattle.layout.proofs.Written.{header-least}
-use Rattle.rules.specs.Rules.{userBad, countsBad}
+use Rattle.format.specs.Layout.{grantsFrom, nodesFrom, pairsFrom, stepPricesFrom, linkPricesFrom, fileLength, headerOf, asRead, headerBytes, nightOf}
+use Rattle.format.proofs.Written.{header-least}
+use Rattle.trials.specs.Rules.{userBad, countsBad}
 use Rattle.trials.specs.Trials.{notMarked, notVersioned, headerTrials, recordTrials, treeTrials, trials, checkOf}
 use Rattle.writes.specs.Values.{Values, nightFrom, fileBytes}
 use Rattle.writes.specs.Writing.{miscounted, countTrials, roomTrials, writeTrials, writeOf, judgedBy}

@@ -19,10 +19,10 @@ use Rattle.night.specs.declared.Grant.{Grant}
 use Rattle.night.specs.declared.Node.{Node}
 use Rattle.night.specs.Versions.{hasPairs, headerLength, nodeLength}
 use Rattle.night.specs.Night.{Night, noRelation, noGrant, noNode}
-use Rattle.layout.specs.Layout.{grantsFrom, nodesFrom, pairsFrom, pairsIn, stepPricesFrom, linkPricesFrom, fileLength, headerOf, asRead, headerBytes, relationAt, relationBytes, grantAt, grantBytes, nodeAt, nodeBytes, nodeAsRead, pairAt, pricesAt, nightIn, nightOf}
-use Rattle.layout.proofs.Read.{relation-copied, grant-copied, node-copied}
-use Rattle.layout.proofs.Sections.{cell-lt}
-use Rattle.layout.proofs.Written.{header-long, relation-long, grant-long, node-long, header-back, relation-back, grant-back, node-back}
+use Rattle.format.specs.Layout.{grantsFrom, nodesFrom, pairsFrom, pairsIn, stepPricesFrom, linkPricesFrom, fileLength, headerOf, asRead, headerBytes, relationAt, relationBytes, grantAt, grantBytes, nodeAt, nodeBytes, nodeAsRead, pairAt, pricesAt, nightIn, nightOf}
+use Rattle.format.proofs.Read.{relation-copied, grant-copied, node-copied}
+use Rattle.format.proofs.Sections.{cell-lt}
+use Rattle.format.proofs.Written.{header-long, relation-long, grant-long, node-long, header-back, relation-back, grant-back, node-back}
 use Rattle.writes.specs.Values.{Values, rowsOf, nightFrom, fileBytes, bytesFrom, pricesFrom, valuesOf, readAs}
 use Rattle.writes.specs.Writing.{miscounted}
 use Rattle.writes.specs.Back.{RelationFits, GrantFits, NodeFits, ValuesFit, ReadsBack, ValuesBack}

@@ -10,7 +10,7 @@ use Rattle.night.specs.declared.Relation.{Relation}
 use Rattle.night.specs.declared.Grant.{Grant}
 use Rattle.night.specs.declared.Node.{Node}
 use Rattle.night.specs.Night.{noRelation, noGrant, noNode}
-use Rattle.layout.specs.Layout.{fileLength, asRead, nightOf}
+use Rattle.format.specs.Layout.{fileLength, asRead, nightOf}
 use Rattle.trials.specs.Trials.{headerTrials, checkOf}
 use Rattle.writes.specs.Values.{Values, nightFrom, fileBytes, valuesOf, readAs}
 use Rattle.writes.specs.Writing.{miscounted, writeOf, judgedBy, rewriteOf}

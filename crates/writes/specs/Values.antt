@@ -10,8 +10,8 @@ use Rattle.night.specs.declared.Relation.{Relation}
 use Rattle.night.specs.declared.Grant.{Grant}
 use Rattle.night.specs.declared.Node.{Node}
 use Rattle.night.specs.Night.{Night}
-use Rattle.layout.specs.Layout.{pairsFrom, pairsIn, stepPricesFrom, linkPricesFrom, headerOf, headerBytes, asRead}
-use Rattle.layout.specs.Layout.{relationBytes, grantBytes, nodeBytes, nodeAsRead, pairAt, nightOf}
+use Rattle.format.specs.Layout.{pairsFrom, pairsIn, stepPricesFrom, linkPricesFrom, headerOf, headerBytes, asRead}
+use Rattle.format.specs.Layout.{relationBytes, grantBytes, nodeBytes, nodeAsRead, pairAt, nightOf}
 
 -- the header's values, the records in the file's order, the pairs as they stand in it, two bytes each, and the prices, row after row
 pub record Values : Type 0 where

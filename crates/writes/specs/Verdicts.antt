@@ -12,7 +12,7 @@ use Rattle.night.specs.declared.Relation.{Relation}
 use Rattle.night.specs.declared.Grant.{Grant}
 use Rattle.night.specs.declared.Node.{Node}
 use Rattle.night.specs.declared.Pair.{Pair}
-use Rattle.layout.specs.Layout.{headerBytes, asRead, relationBytes, grantBytes, nodeBytes, nodeAsRead, nightOf}
+use Rattle.format.specs.Layout.{headerBytes, asRead, relationBytes, grantBytes, nodeBytes, nodeAsRead, nightOf}
 use Rattle.trials.specs.Small.{small, withUser, grantByte, threePairs, paired}
 use Rattle.writes.specs.Values.{withHeader, withNodes, Values, rowsOf, nightFrom, fileBytes, valuesOf}
 use Rattle.writes.specs.Writing.{miscounted, writeOf, roomAfter, rewriteOf}

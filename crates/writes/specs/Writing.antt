@@ -8,8 +8,8 @@ use Rattle.laws.specs.Choose.{if_then_else_, anyOf}
 use Rattle.laws.specs.Trials.{Trial, trial, Says, answers, refuses, verdict}
 use Rattle.night.specs.declared.Header.{Header}
 use Rattle.night.specs.Versions.{known}
-use Rattle.layout.specs.Layout.{pairsIn, fileLength, headerOf}
-use Rattle.rules.specs.Rules.{countsBad}
+use Rattle.format.specs.Layout.{pairsIn, fileLength, headerOf}
+use Rattle.trials.specs.Rules.{countsBad}
 use Rattle.trials.specs.Trials.{headerTrials, recordTrials, treeTrials}
 use Rattle.writes.specs.Values.{Values, nightFrom, valuesOf}
 

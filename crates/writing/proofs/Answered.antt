@@ -10,7 +10,7 @@ use borrow.Author.Tests.{lt-ltb, le-ltb}
 use Rattle.laws.specs.Trials.{Says, answers, refuses, verdict}
 use Rattle.laws.proofs.Trials.{never, passed, refused-then, all-refused}
 use Rattle.night.specs.declared.Header.{Header}
-use Rattle.layout.specs.Layout.{fileLength}
+use Rattle.format.specs.Layout.{fileLength}
 use Rattle.trials.specs.Trials.{checkOf}
 use Rattle.reading.specs.Answers.{saidOf}
 use Rattle.reading.specs.declared.Checked.{Checked}

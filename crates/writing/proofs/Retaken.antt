@@ -18,8 +18,8 @@ use Rattle.night.specs.declared.Grant.{Grant}
 use Rattle.night.specs.declared.Node.{Node}
 use Rattle.night.specs.declared.Pair.{Pair}
 use Rattle.night.specs.Night.{relationOf, grantOf, nodeOf, pairOf, noRelation, noGrant, noNode}
-use Rattle.layout.specs.Layout.{pairsFrom, pairsIn, stepPricesFrom, linkPricesFrom, fileLength, headerOf, relationAt, grantAt, nodeAt, pairAt, nthPrice, nightIn}
-use Rattle.layout.proofs.Sections.{pair-at, price-in}
+use Rattle.format.specs.Layout.{pairsFrom, pairsIn, stepPricesFrom, linkPricesFrom, fileLength, headerOf, relationAt, grantAt, nodeAt, pairAt, nthPrice, nightIn}
+use Rattle.format.proofs.Sections.{pair-at, price-in}
 use Rattle.trials.specs.Trials.{headerTrials}
 use Rattle.reading.specs.Answers.{saidOf}
 use Rattle.reading.specs.declared.Checked.{Checked}

@@ -13,7 +13,7 @@ ghost use mathlib.Core.Path.{_≡_};
 ghost use Prim.Native.Nat.{ℕ, _+_, _*_, _<_, _^_};
 ghost use lib.ListN.{length, getD, take};
 ghost use Rattle.night.specs.Night.{relationOf, grantOf, nodeOf, noRelation, noGrant, noNode};
-ghost use Rattle.layout.specs.Layout.{pairsFrom, pairsIn, nightIn, nthPrice};
+ghost use Rattle.format.specs.Layout.{pairsFrom, pairsIn, nightIn, nthPrice};
 ghost use Rattle.writes.specs.Values.{bytesFrom};
 ghost use Rattle.encoding.specs.Encoded.{mostRelations, mostGrants, mostNodes};
 ghost use Rattle.writing.specs.Prices.{mostPairBytes, mostPrices};

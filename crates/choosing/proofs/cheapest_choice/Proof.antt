@@ -3,7 +3,7 @@ use mathlib.Core.Path.{_≡_, sym, ap, _∙_}
 use denote.Ref.{now}
 use borrow.Author.Needs.{needs}
 use Rattle.laws.specs.Trials.{answers}
-use Rattle.layout.specs.Layout.{nightIn}
+use Rattle.format.specs.Layout.{nightIn}
 use Rattle.verdicts.specs.Refusals.{withoutCandidate, choosingOf}
 use Rattle.reading.specs.Answers.{saidOf}
 use Rattle.choosing.proofs.Answered.{none-below, all-have, without-refused, steps-refused, choice-passes, choice-unread, sound-night, choice-refused, choice-found, read-with, pass-held}

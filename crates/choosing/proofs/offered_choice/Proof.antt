@@ -3,7 +3,7 @@ use mathlib.Core.Path.{_≡_, refl, sym, ap, _∙_}
 use denote.Ref.{now}
 use borrow.Author.Needs.{needs}
 use Rattle.laws.specs.Trials.{answers}
-use Rattle.layout.specs.Layout.{nightIn}
+use Rattle.format.specs.Layout.{nightIn}
 use Rattle.verdicts.specs.Refusals.{offerBad, choosingOf}
 use Rattle.reading.specs.Answers.{saidOf}
 use Rattle.choosing.proofs.Answered.{none-below, length-refused, node-refused, offer-passes, offer-admissible, offer-unread, sound-night, offer-refused, offer-costs, built-found, read-with, pass-held}

@@ -4,7 +4,7 @@ use native.Mathlib.Omega.{arith}
 use lib.ListN.{replicate}
 use denote.Ref.{now}
 use borrow.Author.Needs.{needs}
-use Rattle.layout.specs.Layout.{nightIn}
+use Rattle.format.specs.Layout.{nightIn}
 use Rattle.model.specs.Dp.{subjectsOf}
 use Rattle.eligible.specs.declared.walk.Walked.{Walked}
 use Rattle.eligible.specs.Walk.{clearAt}

@@ -3,7 +3,7 @@ use mathlib.Core.Path.{refl, _∙_}
 use native.Mathlib.Omega.{arith}
 use denote.Ref.{now}
 use borrow.Author.Needs.{needs}
-use Rattle.layout.specs.Layout.{nightIn}
+use Rattle.format.specs.Layout.{nightIn}
 use Rattle.model.specs.OneTest.{here}
 use Rattle.eligible.proofs.Passes.{step-there, step-set, leaf-set}
 use Rattle.eligible.proofs.set_of.Statement.{statement}

@@ -3,7 +3,7 @@ use mathlib.Core.Path.{refl, sym, ap, _∙_}
 use denote.Ref.{now}
 use borrow.Author.Needs.{needs}
 use Rattle.laws.specs.Trials.{answers}
-use Rattle.layout.specs.Layout.{nightIn}
+use Rattle.format.specs.Layout.{nightIn}
 use Rattle.reading.specs.Answers.{saidOf}
 use Rattle.trials.proofs.Promises.{accepted-sound}
 use Rattle.eligible.proofs.Questions.{asked-both, why-unread, why-unasked, why-answered}

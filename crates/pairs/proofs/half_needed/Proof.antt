@@ -8,9 +8,9 @@ use native.Mathlib.Omega.{arith}
 use denote.Ref.{now}
 use lib.ListN.{length, getD, drop}
 use Rattle.laws.specs.Choose.{anyOf}
-use Rattle.layout.specs.Layout.{nightIn}
+use Rattle.format.specs.Layout.{nightIn}
 use Rattle.night.specs.Kinds.{readTogether}
-use Rattle.rules.specs.Rules.{half}
+use Rattle.trials.specs.Rules.{half}
 use Rattle.pairs.proofs.OneByOne.{any-here, any-behind, any-past}
 use Rattle.pairs.proofs.half_needed.Statement.{statement}
 use Rattle.pairs.proofs.half_needed.Tie as tie

@@ -2,7 +2,7 @@
 use borrow.Author.Needs.{needs}
 use mathlib.Core.Path.{ap, _∙_}
 use denote.Ref.{now}
-use Rattle.layout.specs.Layout.{nightIn}
+use Rattle.format.specs.Layout.{nightIn}
 use Rattle.night.specs.Night.{pairOf}
 use Rattle.night.specs.Kinds.{itsPair}
 use Rattle.pairs.proofs.its_pair.Statement.{statement}

@@ -1,7 +1,7 @@
 -- The tests are the definition's.
 use borrow.Author.Needs.{needs}
 use Rattle.laws.proofs.Cases.{cases}
-use Rattle.rules.specs.Rules.{neededBad}
+use Rattle.trials.specs.Rules.{neededBad}
 use Rattle.pairs.proofs.needed_bad.Statement.{statement}
 use Rattle.pairs.proofs.needed_bad.Tie as tie
 

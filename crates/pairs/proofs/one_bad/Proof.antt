@@ -7,9 +7,9 @@ use native.Mathlib.Omega.{arith}
 use denote.Ref.{now}
 use Rattle.laws.specs.First.{first}
 use Rattle.laws.proofs.First.{first-none, first-more, somewhere-found, somewhere-none}
-use Rattle.layout.specs.Layout.{nightIn}
+use Rattle.format.specs.Layout.{nightIn}
 use Rattle.night.specs.Kinds.{itsPair}
-use Rattle.rules.specs.Rules.{pairBad}
+use Rattle.trials.specs.Rules.{pairBad}
 use Rattle.pairs.proofs.one_bad.Statement.{statement}
 use Rattle.pairs.proofs.one_bad.Tie as tie
 

@@ -1,7 +1,7 @@
 -- The test is the definition's.
 use borrow.Author.Needs.{needs}
 use Rattle.laws.proofs.Cases.{cases}
-use Rattle.rules.specs.Rules.{pairsBad}
+use Rattle.trials.specs.Rules.{pairsBad}
 use Rattle.pairs.proofs.pairs_bad.Statement.{statement}
 use Rattle.pairs.proofs.pairs_bad.Tie as tie
 

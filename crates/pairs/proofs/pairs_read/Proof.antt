@@ -6,7 +6,7 @@ use native.Mathlib.Omega.{arith}
 use denote.Ref.{now}
 use Rattle.sets.specs.Sets.{unions}
 use Rattle.sets.proofs.Words.{unions-none, unions-turn}
-use Rattle.layout.specs.Layout.{nightIn}
+use Rattle.format.specs.Layout.{nightIn}
 use Rattle.night.specs.Kinds.{itsPair, bothOf, pairsRead}
 use Rattle.pairs.proofs.pairs_read.Statement.{statement}
 use Rattle.pairs.proofs.pairs_read.Tie as tie

@@ -1,7 +1,7 @@
 -- By what its pairs have.
 use borrow.Author.Needs.{needs}
 use denote.Ref.{now}
-use Rattle.layout.specs.Layout.{nightIn}
+use Rattle.format.specs.Layout.{nightIn}
 use Rattle.pairs.proofs.reads.Statement.{statement}
 use Rattle.pairs.proofs.reads.Tie as tie
 

@@ -5,7 +5,7 @@ use mathlib.Core.Bool.{true, false}
 use native.Mathlib.Omega.{arith}
 use denote.Ref.{now}
 use lib.ListN.{List·getD-eq-default}
-use Rattle.layout.specs.Layout.{nightIn}
+use Rattle.format.specs.Layout.{nightIn}
 use Rattle.night.specs.Kinds.{usesPairs, bothOf, readTogether}
 use Rattle.pairs.proofs.OneByOne.{at-pair, at-other}
 use Rattle.pairs.proofs.together.Statement.{statement}

@@ -1,6 +1,6 @@
 -- The choice's refusal is passed up; then the lowest short room refuses; then the rooms are filled.
 use denote.Ref.{now}
-use Rattle.layout.specs.Layout.{nightIn, nightOf}
+use Rattle.format.specs.Layout.{nightIn, nightOf}
 use Rattle.planning.proofs.Answered.{chosen-promises, cheapest-unchosen, cheapest-short, cheapest-filled}
 use Rattle.planning.proofs.Short.{three-pass}
 use borrow.Author.Needs.{needs}

@@ -2,7 +2,7 @@
 use mathlib.Core.Path.{refl, sym, ap, _∙_}
 use mathlib.Core.List.{[]}
 use denote.Ref.{now}
-use Rattle.layout.specs.Layout.{nightIn, nightOf}
+use Rattle.format.specs.Layout.{nightIn, nightOf}
 use Rattle.choosing.specs.Answers.{offeredSaid}
 use Rattle.planning.proofs.Answered.{offered-promises, offered-uncosted, offered-short, offered-filled}
 use Rattle.planning.proofs.Short.{two-pass}

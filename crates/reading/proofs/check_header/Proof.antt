@@ -4,7 +4,7 @@ use mathlib.Core.Path.{sym, ap, _∙_}
 use denote.Ref.{now}
 use Rattle.laws.specs.Trials.{answers}
 use Rattle.laws.proofs.Trials.{refused-alike, accepted-alike}
-use Rattle.layout.specs.Layout.{headerOf}
+use Rattle.format.specs.Layout.{headerOf}
 use Rattle.trials.specs.Trials.{headerTrials}
 use Rattle.reading.specs.Answers.{triedOf}
 use Rattle.reading.proofs.check_header.Statement.{statement}

@@ -11,7 +11,7 @@ use Rattle.laws.proofs.First.{first-none, first-all, stretch-none, stretch-foun
 use Rattle.night.specs.declared.Header.{Header}
 use Rattle.night.specs.Night.{grantOf}
 use Rattle.night.specs.Views.{isFor}
-use Rattle.layout.specs.Layout.{nightIn}
+use Rattle.format.specs.Layout.{nightIn}
 use Rattle.views.proofs.first_grant.Statement.{statement}
 use Rattle.views.proofs.first_grant.Tie as tie
 

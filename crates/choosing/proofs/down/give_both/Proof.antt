@@ -2,7 +2,7 @@
 use native.Mathlib.Omega.{arith}
 use borrow.Author.Needs.{needs}
 use mathlib.Core.Path.{refl}
-use Rattle.layout.specs.Layout.{nightIn}
+use Rattle.format.specs.Layout.{nightIn}
 use Rattle.model.specs.Dp.{giveLeft, giveBoth}
 use Rattle.choosing.proofs.Sets.{left-there, right-there}
 use Rattle.choosing.proofs.down.give_both.Statement.{statement}

@@ -2,7 +2,7 @@
 use native.Mathlib.Omega.{arith}
 use mathlib.Core.Path.{refl}
 use denote.Ref.{now}
-use Rattle.layout.specs.Layout.{nightIn}
+use Rattle.format.specs.Layout.{nightIn}
 use Rattle.laws.proofs.Cases.{yes-is, no-is}
 use Rattle.choosing.proofs.Held.{fits-held, child-given, given-more, child-below}
 use Rattle.choosing.proofs.down.give_child.Statement.{statement}

@@ -3,7 +3,7 @@ use native.Mathlib.Omega.{arith}
 use borrow.Author.Needs.{needs}
 use mathlib.Core.Path.{refl}
 use denote.Ref.{now}
-use Rattle.layout.specs.Layout.{nightIn}
+use Rattle.format.specs.Layout.{nightIn}
 use lib.ListN.{getD}
 use Rattle.laws.proofs.Cases.{yes-is, no-is}
 use Rattle.choosing.proofs.Offers.{handed-made, handed-most}

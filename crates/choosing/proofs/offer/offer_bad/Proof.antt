@@ -2,7 +2,7 @@
 use mathlib.Core.Path.{refl}
 use denote.Ref.{now}
 use borrow.Author.Needs.{needs}
-use Rattle.layout.specs.Layout.{nightIn}
+use Rattle.format.specs.Layout.{nightIn}
 use Rattle.choosing.proofs.Offers.{leaf-asked, step-asked}
 use Rattle.choosing.proofs.Sets.{set-at, subjects-step}
 use Rattle.choosing.proofs.offer.offer_bad.Statement.{statement}

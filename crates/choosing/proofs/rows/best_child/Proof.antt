@@ -2,7 +2,7 @@
 use native.Mathlib.Omega.{arith}
 use borrow.Author.Needs.{needs}
 use denote.Ref.{now}
-use Rattle.layout.specs.Layout.{nightIn}
+use Rattle.format.specs.Layout.{nightIn}
 use Rattle.choosing.proofs.Held.{child-fits, child-made}
 use Prim.Native.Nat.{_<_}
 use lib.ListN.{length}

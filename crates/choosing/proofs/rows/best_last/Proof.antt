@@ -2,7 +2,7 @@
 use borrow.Author.Needs.{needs}
 use mathlib.Core.Path.{_∙_}
 use denote.Ref.{now}
-use Rattle.layout.specs.Layout.{nightIn}
+use Rattle.format.specs.Layout.{nightIn}
 use Rattle.choosing.proofs.Held.{last-few, last-long, last-fits, last-made}
 use Rattle.choosing.proofs.rows.best_last.Statement.{statement}
 use Rattle.choosing.proofs.rows.best_last.Tie as tie

@@ -2,7 +2,7 @@
 use native.Mathlib.Omega.{arith}
 use Prim.Native.Nat.{_≤_, _-_}
 use mathlib.Core.Path.{_≡_, sym}
-use Rattle.layout.specs.Layout.{nightIn}
+use Rattle.format.specs.Layout.{nightIn}
 use Rattle.model.specs.Dp.{handedOn, bestOf}
 use Rattle.model.proofs.Lowest.{best-none, best-more}
 use Rattle.choosing.proofs.rows.best_of.Statement.{statement}

@@ -4,7 +4,7 @@ use native.Mathlib.Omega.{arith}
 use Prim.Native.Nat.{_≤_, _-_}
 use mathlib.Core.Path.{_≡_, sym}
 use denote.Ref.{now}
-use Rattle.layout.specs.Layout.{nightIn}
+use Rattle.format.specs.Layout.{nightIn}
 use Rattle.choosing.specs.Held.{HasRows}
 use Rattle.choosing.proofs.Held.{rows-none, rows-more}
 use Rattle.choosing.proofs.rows.cost_rows.Statement.{statement}

@@ -3,7 +3,7 @@ use native.Mathlib.Omega.{arith}
 use borrow.Author.Needs.{needs}
 use mathlib.Core.Path.{refl, sym, _∙_}
 use denote.Ref.{now}
-use Rattle.layout.specs.Layout.{nightIn}
+use Rattle.format.specs.Layout.{nightIn}
 use Rattle.laws.proofs.Cases.{yes-is, no-is}
 use Rattle.sets.proofs.Members.{member-in}
 use Rattle.model.proofs.CostRows.{subject-there}

@@ -8,7 +8,7 @@ use lib.Seq.{ext-getD}
 use Rattle.laws.specs.Choose.{if_then_else_}
 use Rattle.laws.specs.Upwards.{upwards, each}
 use Rattle.laws.proofs.Upwards.{Agrees, agrees-none, agrees-more, each-length}
-use Rattle.layout.specs.Layout.{nightIn}
+use Rattle.format.specs.Layout.{nightIn}
 use Rattle.sets.specs.Sets.{member}
 use Rattle.night.specs.Night.{Night}
 use Rattle.model.specs.Dp.{subjectsOf, rowEntry, rowStep}

@@ -2,7 +2,7 @@
 use native.Mathlib.Omega.{arith}
 use borrow.Author.Needs.{needs}
 use denote.Ref.{now}
-use Rattle.layout.specs.Layout.{nightIn}
+use Rattle.format.specs.Layout.{nightIn}
 use Rattle.model.proofs.CostRows.{paid}
 use Rattle.model.proofs.Weight.{paid-most}
 use Rattle.choosing.proofs.Sets.{left-there, right-there}

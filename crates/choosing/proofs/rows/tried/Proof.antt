@@ -5,7 +5,7 @@ use Rattle.laws.proofs.Cases.{cases}
 use Prim.Native.Nat.{_*_}
 use mathlib.Core.Path.{_≡_, sym, _∙_}
 use denote.Ref.{now}
-use Rattle.layout.specs.Layout.{nightIn}
+use Rattle.format.specs.Layout.{nightIn}
 use Rattle.night.specs.Night.{linkPrice}
 use Rattle.sets.proofs.Members.{member-in}
 use Rattle.choosing.proofs.rows.tried.Statement.{statement}

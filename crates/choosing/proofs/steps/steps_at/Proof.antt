@@ -1,7 +1,7 @@
 -- The two children, each lower than the node.
 use native.Mathlib.Omega.{arith}
 use borrow.Author.Needs.{needs}
-use Rattle.layout.specs.Layout.{nightIn}
+use Rattle.format.specs.Layout.{nightIn}
 use Rattle.model.specs.Choice.{stepsAt}
 use mathlib.Core.Path.{refl}
 use Rattle.choosing.proofs.Sets.{left-there, right-there}

@@ -1,7 +1,7 @@
 -- A leaf's weight by its kind, a step's by its set.
 use borrow.Author.Needs.{needs}
 use denote.Ref.{now}
-use Rattle.layout.specs.Layout.{nightIn}
+use Rattle.format.specs.Layout.{nightIn}
 use Rattle.choosing.proofs.Sets.{weight-at}
 use Rattle.choosing.proofs.steps.weight_of.Statement.{statement}
 use Rattle.choosing.proofs.steps.weight_of.Tie as tie

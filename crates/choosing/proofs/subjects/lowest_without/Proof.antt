@@ -5,7 +5,7 @@ use Prim.Native.Nat.{_≤_, _-_}
 use mathlib.Core.Path.{_≡_, sym, _∙_}
 use mathlib.Core.Bool.{true, false}
 use denote.Ref.{now}
-use Rattle.layout.specs.Layout.{nightIn}
+use Rattle.format.specs.Layout.{nightIn}
 use Rattle.laws.specs.First.{first}
 use Rattle.laws.proofs.First.{first-none, first-more, first-found, first-all}
 use Rattle.verdicts.specs.Refusals.{withoutCandidate}

@@ -4,7 +4,7 @@ use native.Mathlib.Omega.{arith}
 use borrow.Author.Needs.{needs}
 use borrow.Author.Tests.{not-true, not-false}
 use denote.Ref.{now}
-use Rattle.layout.specs.Layout.{nightIn}
+use Rattle.format.specs.Layout.{nightIn}
 use Rattle.reading.specs.Answers.{saidOf}
 use Rattle.trials.proofs.Promises.{accepted-sound}
 use Rattle.choosing.proofs.Users.{read-as, user-sees, user-unread, user-none, user-refused, user-passes}

@@ -3,7 +3,7 @@ use borrow.Author.Needs.{needs}
 use native.Mathlib.Omega.{arith}
 use Prim.Native.Nat.{_≤_, _-_}
 use mathlib.Core.Path.{_≡_, sym, _∙_}
-use Rattle.layout.specs.Layout.{nightIn}
+use Rattle.format.specs.Layout.{nightIn}
 use Rattle.night.specs.Night.{nodeOf}
 use Rattle.laws.specs.First.{first}
 use Rattle.laws.proofs.First.{first-none, first-more, first-found, first-all}

@@ -1,7 +1,7 @@
 -- The tests are the definition's, in its order.
 use borrow.Author.Needs.{needs}
 use Rattle.laws.proofs.Cases.{cases}
-use Rattle.layout.specs.Layout.{nightIn}
+use Rattle.format.specs.Layout.{nightIn}
 use Rattle.verdicts.specs.Refusals.{noStep}
 use Rattle.eligible.proofs.reasons.no_step.Statement.{statement}
 use Rattle.eligible.proofs.reasons.no_step.Tie as tie

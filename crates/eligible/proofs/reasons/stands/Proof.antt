@@ -4,7 +4,7 @@ use mathlib.Core.Path.{refl, _∙_}
 use native.Mathlib.Omega.{arith}
 use denote.Ref.{now}
 use borrow.Author.Needs.{needs}
-use Rattle.layout.specs.Layout.{nightIn}
+use Rattle.format.specs.Layout.{nightIn}
 use Rattle.eligible.specs.Asked.{Sees}
 use Rattle.eligible.proofs.Asked.{clear-at, sealed-at}
 use Rattle.eligible.proofs.reasons.stands.Statement.{statement}

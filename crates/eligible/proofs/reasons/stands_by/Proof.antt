@@ -2,7 +2,7 @@
 use mathlib.Core.Path.{_≡_, sym, _∙_}
 use denote.Ref.{now}
 use borrow.Author.Needs.{needs}
-use Rattle.layout.specs.Layout.{nightIn}
+use Rattle.format.specs.Layout.{nightIn}
 use Rattle.model.specs.Tables.{leastView, tableOf}
 use Rattle.model.specs.Reasons.{ofLeft, standingBy}
 use Rattle.eligible.proofs.Questions.{asked-operands, by-view, out-left}

@@ -5,7 +5,7 @@ use lib.ListN.{length}
 use denote.Ref.{now}
 use borrow.Author.Needs.{needs}
 use Rattle.night.specs.Kinds.{usesRight}
-use Rattle.layout.specs.Layout.{nightIn}
+use Rattle.format.specs.Layout.{nightIn}
 use Rattle.eligible.specs.Walk.{rightOf}
 use Rattle.eligible.proofs.Walks.{closed, tied-long, one-or-two}
 use Rattle.eligible.proofs.Questions.{asked-step, asked-operands, out-right, by-result}

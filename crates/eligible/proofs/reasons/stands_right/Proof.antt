@@ -5,7 +5,7 @@ use native.Mathlib.Omega.{arith}
 use denote.Ref.{now}
 use borrow.Author.Needs.{needs}
 use Rattle.night.specs.Kinds.{usesRight}
-use Rattle.layout.specs.Layout.{nightIn}
+use Rattle.format.specs.Layout.{nightIn}
 use Rattle.model.specs.Reasons.{ofRight}
 use Rattle.eligible.proofs.Walks.{right-left, right-none}
 use Rattle.eligible.proofs.Questions.{asked-operands, by-view}

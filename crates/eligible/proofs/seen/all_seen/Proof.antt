@@ -8,7 +8,7 @@ use Rattle.laws.specs.Upwards.{each}
 use Rattle.sets.specs.Sets.{single}
 use Rattle.night.specs.declared.Grant.{Grant}
 use Rattle.night.specs.Views.{clearOf, sealedOf}
-use Rattle.layout.specs.Layout.{nightIn}
+use Rattle.format.specs.Layout.{nightIn}
 use Rattle.eligible.specs.Seen.{place, held, grantees, seenFrom}
 use Rattle.eligible.proofs.SeenHeld.{held-none, held-turn}
 use Rattle.eligible.proofs.SeenOnce.{place-low, relation-low, each-whole}

@@ -40,7 +40,7 @@ loop-again : tie.Need-loop-again Inv-loop μ-loop
 loop-again c =
     let b = c .before .before .before .before in
     let a = b .before .args in
-    (omega arith, merged-turn (a .tied .now) (a .other .now) (b .loop .k) (b .loop .inv .1) (c .tie-some .ensures))
+    (omega arith, merged-turn (a .tied .now) (a .other .now) (b .loop .k) (b .before .pre) (b .loop .inv .1) (c .tie-some .ensures))
 
 returns : tie.Need-returns Inv-loop μ-loop
 returns c =

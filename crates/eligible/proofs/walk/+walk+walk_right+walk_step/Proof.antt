@@ -10,7 +10,7 @@ use borrow.Author.Needs.{needs}
 use borrow.Fn.Kinds.{In}
 use borrow.Fn.PlainCycle.{Measures, is, falls, and}
 use Rattle.night.specs.Kinds.{usesRight}
-use Rattle.layout.specs.Layout.{nightIn}
+use Rattle.format.specs.Layout.{nightIn}
 use Rattle.eligible.specs.Walk.{rightOf}
 use Rattle.eligible.proofs.Walks.{leaf-left, right-left, right-none, step-left, lower-left, lower-right, no-leaf, tied-long, one-or-two}
 use Rattle.eligible.proofs.walk.walk.Reads as walk
@@ -26,7 +26,7 @@ use Rattle.eligible.proofs.ties.merge.Reads as merge-reads
 use Rattle.eligible.proofs.walk.close.Reads as close-reads
 use Rattle.layout.proofs.values.node.Reads as node-reads
 use Rattle.layout.proofs.values.relation.Reads as relation-reads
-use Rattle.rules.proofs.kinds.uses_right.Reads as uses-right-reads
+use Rattle.kinds.proofs.uses_right.Reads as uses-right-reads
 use Rattle.sets.proofs.subjects.single.Reads as single-reads
 use Rattle.tables.proofs.parts.leaf_columns.Reads as leaf-columns-reads
 use Rattle.tables.proofs.parts.no_columns.Reads as no-columns-reads

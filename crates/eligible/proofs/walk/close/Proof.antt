@@ -5,7 +5,7 @@ use denote.Ref.{now}
 use lib.ListN.{set}
 use borrow.Author.Needs.{needs}
 use Rattle.sets.specs.Sets.{minus}
-use Rattle.layout.specs.Layout.{nightIn}
+use Rattle.format.specs.Layout.{nightIn}
 use Rattle.eligible.proofs.Closed.{close-taken, close-made, pass-columns}
 use Rattle.eligible.proofs.walk.close.Statement.{statement}
 use Rattle.eligible.proofs.walk.close.Tie as tie

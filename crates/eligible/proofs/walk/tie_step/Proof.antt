@@ -5,7 +5,7 @@ use mathlib.Core.Path.{_≡_, refl, sym, ap, _∙_}
 use native.Mathlib.Omega.{arith}
 use denote.Ref.{now}
 use lib.ListN.{length, drop}
-use Rattle.layout.specs.Layout.{nightIn}
+use Rattle.format.specs.Layout.{nightIn}
 use Rattle.model.specs.Tables.{ties, tieAll}
 use Rattle.model.proofs.Merged.{tie-length}
 use Rattle.eligible.specs.Walk.{outTied}

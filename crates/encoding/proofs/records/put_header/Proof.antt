@@ -1,4 +1,4 @@
-use Rattle.layout.proofs.Written.{header-least}
+use Rattle.format.proofs.Written.{header-least}
 use Rattle.encoding.proofs.Put.{header-put}
 use native.Mathlib.Omega.{arith}
 use borrow.Author.Needs.{needs}

@@ -1,4 +1,4 @@
-use Rattle.layout.proofs.Written.{node-least}
+use Rattle.format.proofs.Written.{node-least}
 use Rattle.encoding.proofs.Put.{node-put}
 use native.Mathlib.Omega.{arith}
 use borrow.Author.Needs.{needs}

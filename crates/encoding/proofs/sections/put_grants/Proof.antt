@@ -6,8 +6,8 @@ use native.Mathlib.Omega.{arith}
 use lib.ListN.{length, getD}
 use Rattle.night.specs.declared.Grant.{Grant}
 use Rattle.night.specs.Night.{noGrant}
-use Rattle.layout.specs.Layout.{grantBytes}
-use Rattle.layout.proofs.Written.{grant-long}
+use Rattle.format.specs.Layout.{grantBytes}
+use Rattle.format.proofs.Written.{grant-long}
 use Rattle.writes.specs.Back.{GrantFits}
 use Rattle.encoding.proofs.Put.{kept-long}
 use Rattle.encoding.proofs.Section.{SoFar, none-yet, one-more}

@@ -7,8 +7,8 @@ use lib.ListN.{length, getD}
 use Rattle.night.specs.declared.Node.{Node}
 use Rattle.night.specs.Versions.{nodeLength}
 use Rattle.night.specs.Night.{noNode}
-use Rattle.layout.specs.Layout.{nodeBytes}
-use Rattle.layout.proofs.Written.{node-long}
+use Rattle.format.specs.Layout.{nodeBytes}
+use Rattle.format.proofs.Written.{node-long}
 use Rattle.writes.specs.Back.{NodeFits}
 use Rattle.writes.proofs.Again.{entry-ends}
 use Rattle.encoding.proofs.Put.{kept-long}

@@ -6,8 +6,8 @@ use native.Mathlib.Omega.{arith}
 use lib.ListN.{length, getD}
 use Rattle.night.specs.declared.Relation.{Relation}
 use Rattle.night.specs.Night.{noRelation}
-use Rattle.layout.specs.Layout.{relationBytes}
-use Rattle.layout.proofs.Written.{relation-long}
+use Rattle.format.specs.Layout.{relationBytes}
+use Rattle.format.proofs.Written.{relation-long}
 use Rattle.writes.specs.Back.{RelationFits}
 use Rattle.encoding.proofs.Put.{kept-long}
 use Rattle.encoding.proofs.Section.{SoFar, none-yet, one-more}

@@ -11,7 +11,7 @@ use Rattle.laws.specs.Upwards.{each}
 use Rattle.laws.proofs.Upwards.{Agrees, agrees-none, agrees-more, each-length}
 use Rattle.night.specs.declared.Header.{Header}
 use Rattle.night.specs.Night.{nodeOf}
-use Rattle.layout.specs.Layout.{nightIn}
+use Rattle.format.specs.Layout.{nightIn}
 use Rattle.keying.proofs.built.all_opens.Statement.{statement}
 use Rattle.keying.proofs.built.all_opens.Tie as tie
 

@@ -6,7 +6,7 @@ use denote.Triple.Table.{entered, cited}
 use Rattle.night.specs.Night.{grantOf}
 use Rattle.night.proofs.Grant as R
 use Rattle.night.proofs.Grant.Laws as R′
-use Rattle.layout.specs.Layout.{nightIn}
+use Rattle.format.specs.Layout.{nightIn}
 use Rattle.layout.proofs.Thin.{Asked, thin-meets}
 use Rattle.layout.proofs.records.grant.Symbol as step-def
 use Rattle.layout.proofs.records.grant.Symbol.{name as #layout·records·grant}

@@ -6,7 +6,7 @@ use denote.Triple.Table.{entered, cited}
 use Rattle.night.specs.Night.{nodeOf}
 use Rattle.night.proofs.Node as R
 use Rattle.night.proofs.Node.Laws as R′
-use Rattle.layout.specs.Layout.{nightIn}
+use Rattle.format.specs.Layout.{nightIn}
 use Rattle.layout.proofs.Thin.{Asked, thin-meets}
 use Rattle.layout.proofs.records.node.Symbol as step-def
 use Rattle.layout.proofs.records.node.Symbol.{name as #layout·records·node}

@@ -5,7 +5,7 @@ use denote.Builtin.{u32}
 use contract.Running.{givenOf, tables, tablesOf}
 use denote.Triple.Spec.{tripleOf}
 use denote.Triple.Table.{entered, cited}
-use Rattle.layout.specs.Layout.{nthPrice}
+use Rattle.format.specs.Layout.{nthPrice}
 use Rattle.layout.proofs.Thin.{Asked, thin-meets}
 use Rattle.layout.proofs.records.price.Symbol as step-def
 use Rattle.layout.proofs.records.price.Symbol.{name as #layout·records·price}

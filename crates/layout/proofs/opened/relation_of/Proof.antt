@@ -6,7 +6,7 @@ use denote.Triple.Table.{entered, cited}
 use Rattle.night.specs.Night.{relationOf}
 use Rattle.night.proofs.Relation as R
 use Rattle.night.proofs.Relation.Laws as R′
-use Rattle.layout.specs.Layout.{nightIn}
+use Rattle.format.specs.Layout.{nightIn}
 use Rattle.layout.proofs.Thin.{Asked, thin-meets}
 use Rattle.layout.proofs.records.relation.Symbol as step-def
 use Rattle.layout.proofs.records.relation.Symbol.{name as #layout·records·relation}

@@ -1,7 +1,7 @@
 -- The link prices stand last, a row for each subject.
 use borrow.Author.Needs.{needs}
 use native.Mathlib.Omega.{arith}
-use Rattle.layout.specs.Layout.{fileLength}
+use Rattle.format.specs.Layout.{fileLength}
 use Rattle.layout.proofs.places.file_length.Statement.{statement}
 use Rattle.layout.proofs.places.file_length.Tie as tie
 

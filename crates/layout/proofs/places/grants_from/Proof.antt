@@ -2,7 +2,7 @@
 use borrow.Author.Needs.{needs}
 use native.Mathlib.Omega.{arith}
 use mathlib.Core.Path.{refl}
-use Rattle.layout.specs.Layout.{grantsFrom}
+use Rattle.format.specs.Layout.{grantsFrom}
 use Rattle.layout.proofs.places.grants_from.Statement.{statement}
 use Rattle.layout.proofs.places.grants_from.Tie as tie
 

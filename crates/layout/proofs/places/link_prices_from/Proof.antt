@@ -1,7 +1,7 @@
 -- The step prices stand before the link prices, a row for each node.
 use borrow.Author.Needs.{needs}
 use native.Mathlib.Omega.{arith}
-use Rattle.layout.specs.Layout.{linkPricesFrom}
+use Rattle.format.specs.Layout.{linkPricesFrom}
 use Rattle.layout.proofs.places.link_prices_from.Statement.{statement}
 use Rattle.layout.proofs.places.link_prices_from.Tie as tie
 

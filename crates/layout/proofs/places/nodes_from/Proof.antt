@@ -1,7 +1,7 @@
 -- The grants stand before the nodes; a count of grants is below 65,536.
 use borrow.Author.Needs.{needs}
 use native.Mathlib.Omega.{arith}
-use Rattle.layout.specs.Layout.{nodesFrom}
+use Rattle.format.specs.Layout.{nodesFrom}
 use Rattle.layout.proofs.places.nodes_from.Statement.{statement}
 use Rattle.layout.proofs.places.nodes_from.Tie as tie
 

@@ -1,7 +1,7 @@
 -- The nodes stand before the pairs.
 use borrow.Author.Needs.{needs}
 use native.Mathlib.Omega.{arith}
-use Rattle.layout.specs.Layout.{pairsFrom}
+use Rattle.format.specs.Layout.{pairsFrom}
 use Rattle.layout.proofs.places.pairs_from.Statement.{statement}
 use Rattle.layout.proofs.places.pairs_from.Tie as tie
 

@@ -2,7 +2,7 @@
 use borrow.Author.Needs.{needs}
 use native.Mathlib.Omega.{arith}
 use Rattle.laws.proofs.Cases.{cases}
-use Rattle.layout.specs.Layout.{pairsIn}
+use Rattle.format.specs.Layout.{pairsIn}
 use Rattle.layout.proofs.places.pairs_in.Statement.{statement}
 use Rattle.layout.proofs.places.pairs_in.Tie as tie
 

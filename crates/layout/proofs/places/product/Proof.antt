@@ -1,7 +1,7 @@
 -- Two numbers below 256 have a product below 65,536.
 use mathlib.Core.Path.{refl}
 use native.Mathlib.Omega.{arith}
-use Rattle.layout.proofs.Sections.{product-lt}
+use Rattle.format.proofs.Sections.{product-lt}
 use Rattle.layout.proofs.places.product.Statement.{statement}
 use Rattle.layout.proofs.places.product.Tie as tie
 

@@ -1,7 +1,7 @@
 -- The pairs stand before the step prices.
 use borrow.Author.Needs.{needs}
 use native.Mathlib.Omega.{arith}
-use Rattle.layout.specs.Layout.{stepPricesFrom}
+use Rattle.format.specs.Layout.{stepPricesFrom}
 use Rattle.layout.proofs.places.step_prices_from.Statement.{statement}
 use Rattle.layout.proofs.places.step_prices_from.Tie as tie
 

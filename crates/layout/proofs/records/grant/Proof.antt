@@ -3,8 +3,8 @@ use borrow.Author.Needs.{needs}
 use mathlib.Core.Path.{sym}
 use denote.Ref.{now}
 use native.Mathlib.Omega.{arith}
-use Rattle.layout.proofs.Sections.{grant-past}
-use Rattle.layout.proofs.Read.{grant-read}
+use Rattle.format.proofs.Sections.{grant-past}
+use Rattle.format.proofs.Read.{grant-read}
 use Rattle.layout.proofs.records.grant.Statement.{statement}
 use Rattle.layout.proofs.records.grant.Tie as tie
 

@@ -3,8 +3,8 @@ use borrow.Author.Needs.{needs}
 use native.Mathlib.Omega.{arith}
 use mathlib.Core.Path.{sym, _∙_}
 use denote.Ref.{now}
-use Rattle.layout.proofs.Sections.{node-past}
-use Rattle.layout.proofs.Read.{node-read}
+use Rattle.format.proofs.Sections.{node-past}
+use Rattle.format.proofs.Read.{node-read}
 use Rattle.layout.proofs.records.node.Statement.{statement}
 use Rattle.layout.proofs.records.node.Tie as tie
 

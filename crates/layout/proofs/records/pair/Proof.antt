@@ -3,8 +3,8 @@ use borrow.Author.Needs.{needs}
 use native.Mathlib.Omega.{arith}
 use mathlib.Core.Path.{sym}
 use denote.Ref.{now}
-use Rattle.layout.proofs.Sections.{pair-past}
-use Rattle.layout.proofs.Read.{pair-read}
+use Rattle.format.proofs.Sections.{pair-past}
+use Rattle.format.proofs.Read.{pair-read}
 use Rattle.layout.proofs.records.pair.Statement.{statement}
 use Rattle.layout.proofs.records.pair.Tie as tie
 

@@ -1,6 +1,6 @@
 -- Both bytes are read where the definition has them.
 use borrow.Author.Needs.{needs}
-use Rattle.layout.specs.Layout.{pairAt}
+use Rattle.format.specs.Layout.{pairAt}
 use Rattle.layout.proofs.records.pair_at.Statement.{statement}
 use Rattle.layout.proofs.records.pair_at.Tie as tie
 

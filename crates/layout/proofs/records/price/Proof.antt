@@ -3,8 +3,8 @@ use borrow.Author.Needs.{needs}
 use mathlib.Core.Path.{sym}
 use denote.Ref.{now}
 use native.Mathlib.Omega.{arith}
-use Rattle.layout.proofs.Sections.{price-past}
-use Rattle.layout.proofs.Read.{price-read}
+use Rattle.format.proofs.Sections.{price-past}
+use Rattle.format.proofs.Read.{price-read}
 use Rattle.layout.proofs.records.price.Statement.{statement}
 use Rattle.layout.proofs.records.price.Tie as tie
 

@@ -3,8 +3,8 @@ use borrow.Author.Needs.{needs}
 use mathlib.Core.Path.{sym}
 use denote.Ref.{now}
 use native.Mathlib.Omega.{arith}
-use Rattle.layout.proofs.Sections.{relation-past}
-use Rattle.layout.proofs.Read.{relation-read}
+use Rattle.format.proofs.Sections.{relation-past}
+use Rattle.format.proofs.Read.{relation-read}
 use Rattle.layout.proofs.records.relation.Statement.{statement}
 use Rattle.layout.proofs.records.relation.Tie as tie
 

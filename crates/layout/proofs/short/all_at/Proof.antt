@@ -3,8 +3,8 @@ use native.Mathlib.Omega.{arith}
 use borrow.Author.Needs.{needs}
 use mathlib.Core.Path.{_∙_}
 use denote.Ref.{now}
-use Rattle.layout.proofs.Read.{relation-copied, grant-copied, node-copied}
-use Rattle.layout.proofs.Written.{node-most}
+use Rattle.format.proofs.Read.{relation-copied, grant-copied, node-copied}
+use Rattle.format.proofs.Written.{node-most}
 use Rattle.layout.proofs.short.all_at.Statement.{statement}
 use Rattle.layout.proofs.short.all_at.Tie as tie
 

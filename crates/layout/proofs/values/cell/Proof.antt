@@ -3,7 +3,7 @@ use Prim.Native.Nat.{_*_, _<_}
 use borrow.Author.Needs.{needs}
 use mathlib.Core.Path.{refl}
 use native.Mathlib.Omega.{arith}
-use Rattle.layout.proofs.Sections.{product-lt}
+use Rattle.format.proofs.Sections.{product-lt}
 use Rattle.layout.proofs.values.cell.Statement.{statement}
 use Rattle.layout.proofs.values.cell.Tie as tie
 use Rattle.layout.proofs.values.cell.Reads as reads

@@ -5,7 +5,7 @@ use mathlib.Core.Path.{ap, _∙_}
 use mathlib.Core.Bool.{Bool}
 use lib.ListN.{getD}
 use Rattle.laws.specs.Choose.{if_then_else_}
-use Rattle.layout.proofs.Read.{header-made}
+use Rattle.format.proofs.Read.{header-made}
 use Rattle.layout.proofs.values.header.Statement.{statement}
 use Rattle.layout.proofs.values.header.Tie as tie
 

@@ -3,8 +3,8 @@ use borrow.Author.Needs.{needs}
 use mathlib.Core.Path.{sym}
 use denote.Ref.{now}
 use native.Mathlib.Omega.{arith}
-use Rattle.layout.proofs.Sections.{link-price-past-from, link-price-past-to}
-use Rattle.layout.proofs.Read.{link-price-read}
+use Rattle.format.proofs.Sections.{link-price-past-from, link-price-past-to}
+use Rattle.format.proofs.Read.{link-price-read}
 use Rattle.layout.proofs.values.link_price.Statement.{statement}
 use Rattle.layout.proofs.values.link_price.Tie as tie
 

@@ -6,7 +6,7 @@ use denote.Triple.Table.{entered, cited}
 use Rattle.night.specs.Night.{nodeOf}
 use Rattle.night.proofs.Node as R
 use Rattle.night.proofs.Node.Laws as R′
-use Rattle.layout.specs.Layout.{nightIn}
+use Rattle.format.specs.Layout.{nightIn}
 use Rattle.layout.proofs.Thin.{ViewOf, Apart, plain-meets}
 use Rattle.layout.proofs.opened.view_of.Symbol as view-def
 use Rattle.layout.proofs.opened.view_of.Symbol.{name as #layout·opened·view-of}

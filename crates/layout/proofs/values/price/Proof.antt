@@ -5,7 +5,7 @@ use denote.Builtin.{u32}
 use contract.Running.{givenOf, tables, tablesOf}
 use denote.Triple.Spec.{tripleOf}
 use denote.Triple.Table.{entered, cited}
-use Rattle.layout.specs.Layout.{nthPrice}
+use Rattle.format.specs.Layout.{nthPrice}
 use Rattle.layout.proofs.Thin.{ViewOf, Apart, plain-meets}
 use Rattle.layout.proofs.opened.view_of.Symbol as view-def
 use Rattle.layout.proofs.opened.view_of.Symbol.{name as #layout·opened·view-of}

@@ -3,8 +3,8 @@ use borrow.Author.Needs.{needs}
 use mathlib.Core.Path.{sym}
 use denote.Ref.{now}
 use native.Mathlib.Omega.{arith}
-use Rattle.layout.proofs.Sections.{step-price-past-nodes, step-price-past-subjects}
-use Rattle.layout.proofs.Read.{step-price-read}
+use Rattle.format.proofs.Sections.{step-price-past-nodes, step-price-past-subjects}
+use Rattle.format.proofs.Read.{step-price-read}
 use Rattle.layout.proofs.values.step_price.Statement.{statement}
 use Rattle.layout.proofs.values.step_price.Tie as tie
 

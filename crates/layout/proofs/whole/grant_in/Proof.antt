@@ -1,6 +1,6 @@
 -- Each field is read where the definition has it.
 use borrow.Author.Needs.{needs}
-use Rattle.layout.specs.Layout.{grantAt}
+use Rattle.format.specs.Layout.{grantAt}
 use Rattle.layout.proofs.whole.grant_in.Statement.{statement}
 use Rattle.layout.proofs.whole.grant_in.Tie as tie
 

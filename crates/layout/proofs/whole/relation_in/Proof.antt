@@ -1,6 +1,6 @@
 -- Each field is read where the definition has it.
 use borrow.Author.Needs.{needs}
-use Rattle.layout.specs.Layout.{relationAt}
+use Rattle.format.specs.Layout.{relationAt}
 use Rattle.layout.proofs.whole.relation_in.Statement.{statement}
 use Rattle.layout.proofs.whole.relation_in.Tie as tie
 

@@ -2,7 +2,7 @@
 use mathlib.Core.Path.{ap, _∙_}
 use denote.Ref.{now}
 use borrow.Author.Needs.{needs}
-use Rattle.layout.specs.Layout.{nightIn}
+use Rattle.format.specs.Layout.{nightIn}
 use Rattle.keying.specs.Parts.{deliveryOf}
 use Rattle.planning.proofs.Planned.{plan-written, keys-written}
 use Rattle.planning.proofs.rooms.fill_plan.Statement.{statement}

@@ -3,7 +3,7 @@ use borrow.Author.Needs.{needs}
 use Rattle.laws.specs.Choose.{anyOf}
 use Rattle.laws.proofs.Cases.{cases}
 use Rattle.trials.specs.Trials.{attributesBad}
-use Rattle.layout.specs.Layout.{nightIn}
+use Rattle.format.specs.Layout.{nightIn}
 use Rattle.reading.proofs.nodes.attributes_bad.Statement.{statement}
 use Rattle.reading.proofs.nodes.attributes_bad.Tie as tie
 

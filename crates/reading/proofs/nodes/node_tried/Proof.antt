@@ -1,7 +1,7 @@
 -- Three trials, each where those before it pass.
 use borrow.Author.Needs.{needs}
 use Rattle.trials.specs.Trials.{trialsOf}
-use Rattle.layout.specs.Layout.{nightIn}
+use Rattle.format.specs.Layout.{nightIn}
 use mathlib.Core.Path.{ap}
 use Rattle.laws.proofs.Trials.{stops-at, goes-on}
 use Rattle.reading.specs.Answers.{triedOf}

@@ -1,6 +1,6 @@
 -- One trial.
 use borrow.Author.Needs.{needs}
-use Rattle.layout.specs.Layout.{nightIn}
+use Rattle.format.specs.Layout.{nightIn}
 use Rattle.trials.specs.Trials.{trialsOf}
 use Rattle.reading.proofs.nodes.parent_tried.Statement.{statement}
 use Rattle.reading.proofs.nodes.parent_tried.Tie as tie

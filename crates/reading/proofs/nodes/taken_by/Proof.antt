@@ -8,7 +8,7 @@ use denote.Ref.{now}
 use Rattle.laws.specs.First.{first}
 use Rattle.laws.proofs.First.{first-none, first-more, somewhere-found, somewhere-none}
 use Rattle.night.specs.Night.{nodeOf}
-use Rattle.layout.specs.Layout.{nightIn}
+use Rattle.format.specs.Layout.{nightIn}
 use Rattle.reading.specs.Taker.{isTaker}
 use Rattle.reading.proofs.nodes.taken_by.Statement.{statement}
 use Rattle.reading.proofs.nodes.taken_by.Tie as tie

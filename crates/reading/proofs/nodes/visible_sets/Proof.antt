@@ -8,7 +8,7 @@ use lib.ListN.{length, length-set}
 use Rattle.laws.specs.Upwards.{upwards}
 use Rattle.laws.proofs.Upwards.{Agrees, agrees-none, agrees-more}
 use Rattle.night.specs.Kinds.{visibleStep, visibles}
-use Rattle.layout.specs.Layout.{nightIn}
+use Rattle.format.specs.Layout.{nightIn}
 use Rattle.reading.proofs.nodes.visible_sets.Statement.{statement}
 use Rattle.reading.proofs.nodes.visible_sets.Tie as tie
 

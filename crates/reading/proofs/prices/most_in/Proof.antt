@@ -1,7 +1,7 @@
 -- The rows of step prices come first.
 use borrow.Author.Needs.{needs}
 use Rattle.laws.proofs.Cases.{cases}
-use Rattle.layout.specs.Layout.{nightIn}
+use Rattle.format.specs.Layout.{nightIn}
 use Rattle.trials.specs.Trials.{mostIn}
 use Rattle.reading.proofs.prices.most_in.Statement.{statement}
 use Rattle.reading.proofs.prices.most_in.Tie as tie

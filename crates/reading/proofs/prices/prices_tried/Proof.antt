@@ -7,7 +7,7 @@ use mathlib.Core.List.{[], _∷_}
 use lib.Dec.{ltb}
 use Rattle.laws.specs.Trials.{trial, answers, verdict, rows}
 use Rattle.laws.proofs.Trials.{rows-none, rows-more, rows-found, rows-all}
-use Rattle.layout.specs.Layout.{nightIn}
+use Rattle.format.specs.Layout.{nightIn}
 use Rattle.reading.specs.Answers.{triedOf}
 use Rattle.trials.specs.Trials.{priceIn, mostIn, trialsOf}
 use native.Mathlib.Nat.{mul-le-mul}

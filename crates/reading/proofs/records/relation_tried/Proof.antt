@@ -1,7 +1,7 @@
 -- One trial.
 use borrow.Author.Needs.{needs}
 use Rattle.trials.specs.Trials.{trialsOf}
-use Rattle.layout.specs.Layout.{nightIn}
+use Rattle.format.specs.Layout.{nightIn}
 use Rattle.reading.proofs.records.relation_tried.Statement.{statement}
 use Rattle.reading.proofs.records.relation_tried.Tie as tie
 

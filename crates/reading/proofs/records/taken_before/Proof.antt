@@ -6,7 +6,7 @@ use mathlib.Core.Path.{_≡_, sym}
 use Rattle.sets.specs.Sets.{unions}
 use Rattle.sets.proofs.Words.{unions-none, unions-more}
 use Rattle.night.specs.Night.{relationOf}
-use Rattle.layout.specs.Layout.{nightIn}
+use Rattle.format.specs.Layout.{nightIn}
 use Rattle.trials.specs.Trials.{takenBefore}
 use Rattle.reading.proofs.records.taken_before.Statement.{statement}
 use Rattle.reading.proofs.records.taken_before.Tie as tie

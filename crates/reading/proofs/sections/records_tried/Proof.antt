@@ -2,7 +2,7 @@
 use borrow.Author.Needs.{needs}
 use mathlib.Core.Path.{ap}
 use Rattle.laws.proofs.Trials.{stops-at, goes-on}
-use Rattle.layout.specs.Layout.{nightIn}
+use Rattle.format.specs.Layout.{nightIn}
 use Rattle.reading.specs.Answers.{triedOf}
 use Rattle.trials.specs.Trials.{recordTrials}
 use Rattle.reading.proofs.sections.records_tried.Statement.{statement}

@@ -5,7 +5,7 @@ use Prim.Native.Nat.{_≤_, _-_}
 use mathlib.Core.Path.{_≡_, sym, ap, _∙_}
 use Rattle.laws.specs.Trials.{answers, verdict, rows}
 use Rattle.laws.proofs.Trials.{rows-none, rows-more, rows-found, rows-all}
-use Rattle.layout.specs.Layout.{nightIn}
+use Rattle.format.specs.Layout.{nightIn}
 use Rattle.reading.specs.Answers.{triedOf}
 use Rattle.trials.specs.Trials.{countIn, trialsOf, section}
 use Rattle.reading.proofs.sections.section_tried.Statement.{statement}

@@ -5,7 +5,7 @@ use native.Mathlib.Omega.{arith}
 use lib.Dec.{ltb}
 use Rattle.laws.specs.Choose.{anyOf}
 use Rattle.laws.proofs.Cases.{cases, lt-fine, le-bad}
-use Rattle.rules.specs.Rules.{childBad}
+use Rattle.trials.specs.Rules.{childBad}
 use Rattle.rules.proofs.nodes.child_bad.Statement.{statement}
 use Rattle.rules.proofs.nodes.child_bad.Tie as tie
 

@@ -4,7 +4,7 @@ use mathlib.Core.Path.{_≡_}
 use Rattle.laws.specs.Choose.{anyOf}
 use Rattle.laws.proofs.Cases.{cases}
 use Rattle.sets.specs.Sets.{within}
-use Rattle.rules.specs.Rules.{half}
+use Rattle.trials.specs.Rules.{half}
 use Rattle.rules.proofs.nodes.half.Statement.{statement}
 use Rattle.rules.proofs.nodes.half.Tie as tie
 

@@ -5,7 +5,7 @@ use mathlib.Core.Path.{_≡_}
 use lib.Dec.{ltb}
 use Rattle.laws.specs.Choose.{anyOf}
 use Rattle.laws.proofs.Cases.{cases}
-use Rattle.rules.specs.Rules.{namesBad}
+use Rattle.trials.specs.Rules.{namesBad}
 use Rattle.rules.proofs.nodes.names_bad.Statement.{statement}
 use Rattle.rules.proofs.nodes.names_bad.Tie as tie
 

@@ -2,7 +2,7 @@
 use borrow.Author.Needs.{needs}
 use Rattle.laws.specs.Choose.{anyOf}
 use Rattle.laws.proofs.Cases.{cases}
-use Rattle.rules.specs.Rules.{rightBad}
+use Rattle.trials.specs.Rules.{rightBad}
 use Rattle.rules.proofs.nodes.right_bad.Statement.{statement}
 use Rattle.rules.proofs.nodes.right_bad.Tie as tie
 

@@ -2,7 +2,7 @@
 use borrow.Author.Needs.{needs}
 use Rattle.laws.specs.Choose.{anyOf}
 use Rattle.laws.proofs.Cases.{cases}
-use Rattle.rules.specs.Rules.{shapeBad}
+use Rattle.trials.specs.Rules.{shapeBad}
 use Rattle.rules.proofs.nodes.shape_bad.Statement.{statement}
 use Rattle.rules.proofs.nodes.shape_bad.Tie as tie
 

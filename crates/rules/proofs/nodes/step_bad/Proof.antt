@@ -2,7 +2,7 @@
 use borrow.Author.Needs.{needs}
 use Rattle.laws.specs.Choose.{anyOf}
 use Rattle.laws.proofs.Cases.{cases}
-use Rattle.rules.specs.Rules.{stepBad}
+use Rattle.trials.specs.Rules.{stepBad}
 use Rattle.rules.proofs.nodes.step_bad.Statement.{statement}
 use Rattle.rules.proofs.nodes.step_bad.Tie as tie
 

@@ -4,7 +4,7 @@ use mathlib.Core.Path.{_≡_}
 use Rattle.laws.specs.Choose.{anyOf}
 use Rattle.laws.proofs.Cases.{cases}
 use Rattle.sets.specs.Sets.{member}
-use Rattle.rules.specs.Rules.{yBad}
+use Rattle.trials.specs.Rules.{yBad}
 use Rattle.rules.proofs.nodes.y_bad.Statement.{statement}
 use Rattle.rules.proofs.nodes.y_bad.Tie as tie
 

@@ -7,7 +7,7 @@ use lib.Dec.{ltb}
 use borrow.Author.Tests.{lt-ltb, le-ltb}
 use Rattle.laws.specs.Choose.{anyOf}
 use Rattle.laws.proofs.Cases.{cases, last-is}
-use Rattle.rules.specs.Rules.{countsBad}
+use Rattle.trials.specs.Rules.{countsBad}
 use Rattle.rules.proofs.records.counts_bad.Statement.{statement}
 use Rattle.rules.proofs.records.counts_bad.Tie as tie
 

@@ -4,7 +4,7 @@ use mathlib.Core.Path.{_≡_}
 use Rattle.laws.specs.Choose.{anyOf}
 use Rattle.laws.proofs.Cases.{cases}
 use Rattle.sets.specs.Sets.{within}
-use Rattle.rules.specs.Rules.{grantBad}
+use Rattle.trials.specs.Rules.{grantBad}
 use Rattle.rules.proofs.records.grant_bad.Statement.{statement}
 use Rattle.rules.proofs.records.grant_bad.Tie as tie
 

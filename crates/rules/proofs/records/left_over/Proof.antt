@@ -1,7 +1,7 @@
 -- The test is the definition's, by what `below` ensures.
 use Rattle.laws.specs.Choose.{anyOf}
 use borrow.Author.Needs.{needs}
-use Rattle.rules.specs.Rules.{leftOver}
+use Rattle.trials.specs.Rules.{leftOver}
 use Rattle.rules.proofs.records.left_over.Statement.{statement}
 use Rattle.rules.proofs.records.left_over.Tie as tie
 

@@ -1,7 +1,7 @@
 -- The test is the definition's.
 use Rattle.laws.specs.Choose.{anyOf}
 use Rattle.laws.proofs.Cases.{cases}
-use Rattle.rules.specs.Rules.{mostForLink}
+use Rattle.trials.specs.Rules.{mostForLink}
 use Rattle.rules.proofs.records.most_for_link.Statement.{statement}
 use Rattle.rules.proofs.records.most_for_link.Tie as tie
 

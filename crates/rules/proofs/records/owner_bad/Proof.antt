@@ -3,7 +3,7 @@ use mathlib.Core.Path.{_≡_, ap}
 use mathlib.Core.Bool.{not}
 use borrow.Author.Needs.{needs}
 use Rattle.sets.specs.Sets.{within}
-use Rattle.rules.specs.Rules.{ownerBad}
+use Rattle.trials.specs.Rules.{ownerBad}
 use Rattle.rules.proofs.records.owner_bad.Statement.{statement}
 use Rattle.rules.proofs.records.owner_bad.Tie as tie
 

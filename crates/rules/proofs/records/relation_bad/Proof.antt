@@ -2,7 +2,7 @@
 use borrow.Author.Needs.{needs}
 use Rattle.laws.specs.Choose.{anyOf}
 use Rattle.laws.proofs.Cases.{cases}
-use Rattle.rules.specs.Rules.{relationBad}
+use Rattle.trials.specs.Rules.{relationBad}
 use Rattle.rules.proofs.records.relation_bad.Statement.{statement}
 use Rattle.rules.proofs.records.relation_bad.Tie as tie
 

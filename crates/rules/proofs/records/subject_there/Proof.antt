@@ -1,7 +1,7 @@
 -- The tests are the definition's, in its order.
 use Rattle.laws.specs.Choose.{anyOf}
 use Rattle.laws.proofs.Cases.{cases}
-use Rattle.rules.specs.Rules.{subjectThere}
+use Rattle.trials.specs.Rules.{subjectThere}
 use Rattle.rules.proofs.records.subject_there.Statement.{statement}
 use Rattle.rules.proofs.records.subject_there.Tie as tie
 

@@ -2,7 +2,7 @@
 use borrow.Author.Needs.{needs}
 use native.Mathlib.Omega.{arith}
 use Rattle.laws.proofs.Cases.{cases, le-bad, lt-fine}
-use Rattle.rules.specs.Rules.{userBad}
+use Rattle.trials.specs.Rules.{userBad}
 use Rattle.rules.proofs.records.user_bad.Statement.{statement}
 use Rattle.rules.proofs.records.user_bad.Tie as tie
 

@@ -10,7 +10,7 @@ use Rattle.laws.proofs.Upwards.{Agrees, agrees-none, agrees-more, each-at}
 use Rattle.night.specs.declared.Header.{Header}
 use Rattle.night.specs.declared.Grant.{Grant}
 use Rattle.night.specs.Night.{grantOf, noGrant}
-use Rattle.layout.specs.Layout.{nightIn}
+use Rattle.format.specs.Layout.{nightIn}
 use Rattle.views.specs.Stretch.{atOnce}
 use Rattle.views.proofs.grants.decoded.Statement.{statement}
 use Rattle.views.proofs.grants.decoded.Tie as tie

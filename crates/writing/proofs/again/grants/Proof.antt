@@ -10,7 +10,7 @@ use Rattle.laws.proofs.Upwards.{Agrees, agrees-more, each-at}
 use Rattle.night.specs.declared.Header.{Header}
 use Rattle.night.specs.declared.Grant.{Grant}
 use Rattle.night.specs.Night.{grantOf, noGrant}
-use Rattle.layout.specs.Layout.{nightIn}
+use Rattle.format.specs.Layout.{nightIn}
 use Rattle.encoding.specs.Encoded.{mostGrants}
 use Rattle.writing.proofs.Blank.{agrees-blank}
 use Rattle.writing.proofs.again.grants.Statement.{statement}

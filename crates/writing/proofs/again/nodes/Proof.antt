@@ -10,7 +10,7 @@ use Rattle.laws.proofs.Upwards.{Agrees, agrees-more, each-at}
 use Rattle.night.specs.declared.Header.{Header}
 use Rattle.night.specs.declared.Node.{Node}
 use Rattle.night.specs.Night.{nodeOf, noNode}
-use Rattle.layout.specs.Layout.{nightIn}
+use Rattle.format.specs.Layout.{nightIn}
 use Rattle.encoding.specs.Encoded.{mostNodes}
 use Rattle.writing.proofs.Blank.{agrees-blank}
 use Rattle.writing.proofs.again.nodes.Statement.{statement}

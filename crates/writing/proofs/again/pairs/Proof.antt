@@ -6,7 +6,7 @@ use lib.ListN.{length, length-set, take}
 use borrow.Author.Needs.{needs}
 use denote.Ref.{now}
 use Rattle.laws.specs.Upwards.{upwards}
-use Rattle.layout.specs.Layout.{pairsFrom, pairsIn}
+use Rattle.format.specs.Layout.{pairsFrom, pairsIn}
 use Rattle.writes.specs.Values.{bytesFrom}
 use Rattle.writing.specs.Prices.{mostPairBytes}
 use Rattle.writing.proofs.Retaken.{pair-more}

@@ -8,7 +8,7 @@ use borrow.Author.Needs.{needs}
 use denote.Ref.{now}
 use Rattle.laws.proofs.Upwards.{Agrees, agrees-none, agrees-more, each-at}
 use Rattle.night.specs.declared.Header.{Header}
-use Rattle.layout.specs.Layout.{nthPrice}
+use Rattle.format.specs.Layout.{nthPrice}
 use Rattle.writing.specs.Prices.{mostPrices}
 use Rattle.writing.proofs.again.prices.Statement.{statement}
 use Rattle.writing.proofs.again.prices.Tie as tie

@@ -10,7 +10,7 @@ use Rattle.laws.proofs.Upwards.{Agrees, agrees-more, each-at}
 use Rattle.night.specs.declared.Header.{Header}
 use Rattle.night.specs.declared.Relation.{Relation}
 use Rattle.night.specs.Night.{relationOf, noRelation}
-use Rattle.layout.specs.Layout.{nightIn}
+use Rattle.format.specs.Layout.{nightIn}
 use Rattle.encoding.specs.Encoded.{mostRelations}
 use Rattle.writing.proofs.Blank.{agrees-blank}
 use Rattle.writing.proofs.again.relations.Statement.{statement}

@@ -1,0 +1,4 @@
+-- The laws of the layout.
+pub mod Sections
+pub mod Read
+pub mod Written

@@ -1,0 +1,2 @@
+-- Laws that the rules' proofs share.
+pub mod TogetherLaws

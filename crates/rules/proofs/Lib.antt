@@ -1,2 +1,0 @@
--- Laws that the rules' proofs share.
-pub mod Together

@@ -1,2 +1,0 @@
--- When a record of the file breaks a rule.
-pub mod Rules
