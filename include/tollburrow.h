@@ -53,7 +53,8 @@ uint64_t tollburrow_offered(const uint8_t *file, uint64_t file_length, const uin
                             uint64_t *keys, uint64_t keys_length, uint64_t *total);
 
 /* The values of a plan file, every field as it stands there. A field that the version doesn't have means nothing: it is not written, and read back as 0.
- * These are the user in version 1, and in versions 1 and 2 the number of pairs and a node's first and count. */
+ * These are the user in version 1, and in versions 1 and 2 the number of pairs and a node's first and count. So a user that is handed in with version 1 is
+ * dropped without a word: the file names nobody, is never refused with 17, and delivers to nobody. */
 struct tollburrow_header {
   uint16_t version;
   uint8_t subjects, relations, attributes, nodes;

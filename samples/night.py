@@ -232,7 +232,7 @@ def main():
         out.write(reasons())
     with open("samples/houses.axp", "wb") as out:
         out.write(houses())
-    with open("crates/trials/specs/Sample.antt", "w", encoding="utf-8") as out:
+    with open("crates/demands/specs/Sample.antt", "w", encoding="utf-8") as out:
         out.write(
             "-- Document 01's sample night as bytes, written by samples/night.py.\n"
             "use Prim.Native.Nat.{ℕ}\n"

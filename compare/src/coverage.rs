@@ -338,6 +338,19 @@ impl Coverage {
     }
 }
 
+/// One table of those of all parts: the counts of each line together.
+pub fn together(tables: Vec<Vec<Line>>) -> Vec<Line> {
+    let both = |(one, other): (Line, Line)| {
+        assert_eq!(one.what, other.what, "every part has the same table");
+        Line { count: one.count + other.count, ..one }
+    };
+    let merged = |sum: Vec<Line>, table: Vec<Line>| {
+        assert_eq!(sum.len(), table.len(), "every part has the same table");
+        sum.into_iter().zip(table).map(both).collect()
+    };
+    tables.into_iter().reduce(merged).expect("there is a part")
+}
+
 /// Prints the table; where the floors are asked, fails with the lines below
 /// theirs.
 pub fn told(lines: &[Line], floors: bool) -> Result<(), String> {

@@ -1,12 +1,13 @@
 //! What the runner is asked to do.
 
-use crate::LINKED;
 use crate::coverage;
+use crate::parts::LINKED;
 
 pub struct Options {
     pub cases: usize,
     pub seed: u64,
     pub large_every: usize,
+    pub threads: usize,
     pub lines: usize,
     pub answers: Option<String>,
     pub plan: Option<String>,
@@ -23,6 +24,7 @@ fn defaults() -> Options {
         cases: coverage::FULL,
         seed: 1,
         large_every: coverage::FULL_LARGE,
+        threads: 2,
         lines: 1_000,
         answers: None,
         plan: None,
@@ -53,6 +55,7 @@ pub fn options() -> Result<Options, String> {
             "--cases" => options.cases = number(value()?)? as usize,
             "--seed" => options.seed = number(value()?)?,
             "--lines" => options.lines = number(value()?)? as usize,
+            "--threads" => options.threads = number(value()?)?.max(1) as usize,
             "--large" => options.large_every = number(value()?)?.max(1) as usize,
             _ => return Err(format!("{word}: no such option")),
         }

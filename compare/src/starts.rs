@@ -36,24 +36,36 @@ pub const NO_NUMBER: [&[u8]; 16] = [
 /// all calls on most files.
 pub struct Starts {
     wanted: Vec<(String, usize)>,
+    /// How many of these are this part's.
+    share: Vec<usize>,
     taken: Vec<usize>,
 }
 
 impl Starts {
     pub fn of(wanted: Vec<(String, usize)>) -> Starts {
+        let share = wanted.iter().map(|(_, wanted)| *wanted).collect();
         let taken = vec![0; wanted.len()];
-        Starts { wanted, taken }
+        Starts { wanted, share, taken }
+    }
+
+    /// Of each sort the share of one part of the cases, where there are so many:
+    /// the first parts have one more if it can't be the same for all.
+    pub fn part(mut self, number: usize, parts: usize) -> Starts {
+        for (share, (_, wanted)) in self.share.iter_mut().zip(&self.wanted) {
+            *share = (wanted + parts - 1 - number) / parts;
+        }
+        self
     }
 
     /// Whether a case of this sort is one of those wanted, which are spread
     /// over the run.
     pub fn takes(&mut self, sort: usize, index: usize, cases: usize) -> bool {
-        let takes = self.taken[sort] * cases < self.wanted[sort].1 * (index + 1);
+        let takes = self.taken[sort] * cases < self.share[sort] * (index + 1);
         self.taken[sort] += usize::from(takes);
         takes
     }
 
-    /// All are wanted, so each floor is what was wanted.
+    /// All are wanted, so each floor is what was wanted of all parts together.
     pub fn lines(&self) -> Vec<Line> {
         let sorts = self.wanted.iter().zip(&self.taken);
         sorts.map(|((what, wanted), &taken)| line(what, taken, *wanted)).collect()

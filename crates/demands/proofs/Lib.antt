@@ -1,7 +1,7 @@
 -- The proofs of the statements over bytes.
+pub mod SampleVerdicts
 pub mod Marked
 pub mod Leaves
-pub mod Once
 pub mod Why
 pub mod SampleRuns
 pub mod Demand3

@@ -29,15 +29,15 @@ use Rattle.model.specs.Dp.{subjectsOf, better, handedOn, bestOf, bestChild, row
 use Rattle.verdicts.specs.Refusals.{withoutCandidate}
 use Rattle.model.proofs.TableLaws.{union-none, function-ties}
 use Rattle.model.proofs.Dp.{dp-least, least-there, chosen-total}
-use Rattle.trials.specs.Sample.{sample}
 use Rattle.trials.proofs.Opened.{accepted-header}
 use Rattle.trials.proofs.Promises.{accepted-promises}
-use Rattle.trials.proofs.Computed.{file-verdicts}
 use Rattle.choosing.proofs.Answered.{none-below, all-have}
 use Rattle.planning.specs.Answers.{candidatesOf}
 use Rattle.planning.proofs.Answered.{candidates-accepted}
+use Rattle.demands.specs.Sample.{sample}
 use Rattle.demands.specs.SampleNight.{sampleIn, sampleNight}
 use Rattle.demands.specs.Marked.{conditions, Marked}
+use Rattle.demands.proofs.SampleVerdicts.{said}
 
 -- what is computed: the values of the bytes; the candidates of steps, the steps, that every step has a candidate, and the least cost of the last node; and
 -- which conditions hold of the profile, and who sees D how
@@ -63,12 +63,12 @@ head = record { version = 1; subjects = 6; relations = 2; attributes = 6; nodes 
 
 of-bytes : (i set : ℕ) → candidateSet sampleNight i ≡ set → candidatesOf sample i ≡ answers set
 of-bytes i set e =
-    let same : nightIn sample head ≡ sampleNight = rw (← accepted-header sample head (file-verdicts .sample-accepted)) (computed .0) in
-    candidates-accepted sample head i (file-verdicts .sample-accepted) ∙ ap (λ (N : Night). answers (candidateSet N i)) same ∙ ap answers e
+    let same : nightIn sample head ≡ sampleNight = rw (← accepted-header sample head (said .0)) (computed .0) in
+    candidates-accepted sample head i (said .0) ∙ ap (λ (N : Night). answers (candidateSet N i)) same ∙ ap answers e
 
 -- the choice that is worked out costs that, and so does every other cheapest choice
 pub sound : Promised sampleNight
-sound = rw (computed .0) at (accepted-promises sample head (file-verdicts .sample-accepted))
+sound = rw (computed .0) at (accepted-promises sample head (said .0))
 
 have : AllHave sampleNight
 unfolding sampleIn

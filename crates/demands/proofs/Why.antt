@@ -3,8 +3,7 @@ use Prim.Native.Nat.{ℕ, _<_}
 use mathlib.Core.Path.{_≡_, refl, sym, ap, _∙_}
 use mathlib.Core.Bool.{Bool, true, false}
 use mathlib.Core.List.{List}
-use mathlib.Core.Logic.{_↔_, inl, inr}
-use native.Mathlib.Omega.{arith}
+use mathlib.Core.Logic.{_↔_}
 use lib.Dec.{ltb}
 use borrow.Author.Tests.{ne-eqb, lt-ltb, ltb-true, ltb-false}
 use Rattle.laws.specs.Choose.{anyOf}
@@ -19,7 +18,7 @@ use Rattle.format.proofs.Sections.{node-past}
 use Rattle.model.specs.declared.Standing.{Standing}
 use Rattle.model.specs.declared.Standing.the-variants.{Candidate, Out}
 use Rattle.model.specs.Candidates.{candidateSet}
-use Rattle.model.specs.Reasons.{ofResult, lookedAt, standing, Looked, FirstOut, Named}
+use Rattle.model.specs.Reasons.{ofResult, lookedAt, standing, FirstOut, Named}
 use Rattle.model.proofs.Reasons.{candidate-standing}
 use Rattle.model.proofs.Offending.{out-exactly}
 use Rattle.model.proofs.ResultTied.{result-tied}
@@ -30,7 +29,6 @@ use Rattle.eligible.proofs.Questions.{unasked, asked-step, asked-both, why-unas
 use Rattle.planning.specs.Answers.{candidatesOf, whyOf}
 use Rattle.planning.proofs.Answered.{candidates-exactly}
 use Rattle.planning.proofs.Questions.{why-once}
-use Rattle.tollburrow.specs.Codes.{tableNumber, conditionNumber, namedSet}
 use Rattle.demands.specs.Why.{Asked, OutBy, WhyOut}
 
 module _ (s : List ℕ) where
@@ -105,22 +103,6 @@ module _ (s : List ℕ) where
       below true l step = ltb-true i (N .header .nodes) l
       below false l step = absurd (step (rw (node-past s (headerOf s) i (ltb-false i (N .header .nodes) l)) refl))
 
--- a table that is looked at is not 0
-some-table : (s : List ℕ) (i p k c set : ℕ) → whyOf s i p ≡ answers (Out k c set) → k ≡ 0 → ⊥
-some-table s i p k c set e z = go (out-by s i p k c set e .first .looked)
-  where
-    go : Looked (nightOf s) i k → ⊥
-    go (inl q) = omega arith
-    go (inr (inl q)) = omega (arith, q .0)
-    go (inr (inr q)) = omega arith
-
-same-numbers : (s t : List ℕ) (i p j q : ℕ) (x y : Standing) → whyOf s i p ≡ answers x → whyOf t j q ≡ answers y
-    → tableNumber x ≡ tableNumber y → conditionNumber x ≡ conditionNumber y → namedSet x ≡ namedSet y → x ≡ y
-same-numbers s t i p j q Candidate Candidate e f table condition named = refl
-same-numbers s t i p j q Candidate (Out k c set) e f table condition named = absurd (some-table t j q k c set f (sym table))
-same-numbers s t i p j q (Out k c set) Candidate e f table condition named = absurd (some-table s i p k c set e table)
-same-numbers s t i p j q (Out k c set) (Out l d other) e f table condition named = rw (table, condition, named) refl
-
 pub why-out : WhyOut
 unfolding candidatesOf whyOf whyTrials
 why-out =
@@ -144,6 +126,5 @@ why-out =
           let w = out-by s i p ofResult c set e in
           let a = w .asked in
           result-tied (nightOf s) (accepted-promises s (a .accepted .0) (a .accepted .1)) i (a .node) (a .step) _ _ c (w .first);
-      numbers = same-numbers;
       once = λ s i p a b e f. why-once a b (e ∙ sym f);
     }

@@ -1,8 +1,8 @@
 -- The statements over bytes.
+pub mod Sample
 pub mod SampleNight
 pub mod Marked
 pub mod Leaves
-pub mod Once
 pub mod Why
 pub mod SampleRuns
 pub mod Demand3

@@ -17,8 +17,8 @@ use Rattle.model.specs.Ties.{untied, tie}
 use Rattle.model.specs.Tables.{stepTable, FunctionTies}
 use Rattle.model.specs.Candidates.{clearOffends, sealedOffends, tiedOffends}
 use Rattle.model.specs.Choice.{Choice, Least, total, steps}
-use Rattle.trials.specs.Sample.{sample}
 use Rattle.planning.specs.Answers.{candidatesOf}
+use Rattle.demands.specs.Sample.{sample}
 use Rattle.demands.specs.SampleNight.{sampleNight}
 
 -- the profile of the sample: clear P, sealed B S C, tied {S, C}, where S B D T C P are 0 to 5

@@ -5,13 +5,14 @@ use mathlib.Core.List.{List, [], _∷_}
 use lib.ListN.{getD}
 use Rattle.laws.specs.Trials.{answers, refuses}
 use Rattle.format.specs.Layout.{nightOf}
-use Rattle.trials.specs.Sample.{sample}
 use Rattle.trials.specs.Small.{withUser}
+use Rattle.trials.specs.Trials.{checkOf}
 use Rattle.model.specs.Choice.{Choice}
 use Rattle.model.specs.Plan.{built, planRoom, keysRoom}
 use Rattle.run.specs.Run.{holders, Clean}
 use Rattle.verdicts.specs.Refusals.{choosingOf}
 use Rattle.verdicts.specs.Verdicts.{cheapest, room}
+use Rattle.demands.specs.Sample.{sample}
 use Rattle.demands.specs.SampleNight.{sampleNight, sampleUser}
 
 -- the subjects that document 01 gives the nodes
@@ -22,7 +23,10 @@ abbrev pub chosen : Choice
 chosen i = getD subjects i 0
 
 pub record SampleRuns : Type 0 where
-  -- the plan that is built for them runs clean
+  -- reading accepts the file
+  pub accepted :
+      checkOf sample ≡ answers (record { version = 1; subjects = 6; relations = 2; attributes = 6; nodes = 6; grants = 14; steps = 76; user = 0; pairs = 0 })
+  -- the plan that is built for these subjects runs clean
   pub clean : Clean sampleNight (built sampleNight chosen)
   -- the bytes with U as user hold these values
   pub decoded : nightOf (withUser 2 sample) ≡ sampleUser

@@ -15,7 +15,6 @@ use Rattle.model.specs.declared.Standing.the-variants.{Candidate, Out}
 use Rattle.model.specs.Reasons.{ofResult, lookedAt, FirstOut, Named}
 use Rattle.planning.specs.declared.SubjectStanding.{SubjectStanding}
 use Rattle.planning.specs.Answers.{candidatesOf, whySaid, whyOf}
-use Rattle.tollburrow.specs.Codes.{tableNumber, conditionNumber, namedSet}
 
 -- a question about an accepted file, a step and a subject of it
 pub record Asked (s : List ℕ) (i p : ℕ) : Type 0 where
@@ -42,8 +41,5 @@ pub record WhyOut : Type 0 where
   pub not-asked : (s : List ℕ) (h : Header) → checkOf s ≡ answers h → (i p : ℕ) → (whyOf s i p ≡ refuses 16 i) ↔ (Asked s i p → ⊥)
   -- of the result only condition 3 can be the first to fail
   pub result-tied : (s : List ℕ) (i p c set : ℕ) → whyOf s i p ≡ answers (Out ofResult c set) → c ≡ 3
-  -- the numbers that are written for C tell two standings apart
-  pub numbers : (s t : List ℕ) (i p j q : ℕ) (x y : Standing) → whyOf s i p ≡ answers x → whyOf t j q ≡ answers y
-      → tableNumber x ≡ tableNumber y → conditionNumber x ≡ conditionNumber y → namedSet x ≡ namedSet y → x ≡ y
   -- any two answers that the promise admits are equal
   pub once : (s : List ℕ) (i p : ℕ) (a b : SubjectStanding) → whySaid a ≡ whyOf s i p → whySaid b ≡ whyOf s i p → a ≡ b

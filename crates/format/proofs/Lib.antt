@@ -2,3 +2,4 @@
 pub mod Sections
 pub mod Read
 pub mod Written
+pub mod Computed

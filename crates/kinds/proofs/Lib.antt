@@ -1,2 +1,2 @@
--- Laws that the rules' proofs share.
+-- A law that the kinds' proofs share.
 pub mod TogetherLaws

@@ -85,6 +85,7 @@ standings =
       lowest-hidden = refl;
       lowest-of-two = refl;
       first-tied = refl;
+      tied-behind = refl;
       tied-alone = refl;
       tied-sealed = refl;
       pairs-each = refl;

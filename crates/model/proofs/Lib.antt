@@ -14,6 +14,7 @@ pub mod Kept
 pub mod OneTest
 pub mod Once
 pub mod Computed
+pub mod Amounts
 pub mod Parents
 pub mod Under
 pub mod Lowest

@@ -114,6 +114,8 @@ pub record Standings : Type 0 where
   pub lowest-of-two : standing inClear 5 (these (0 ∷ 1 ∷ 2 ∷ 3 ∷ [])) 0 ≡ Out 2 2 (these (4 ∷ []))
   -- of three tied sets that fail the one with the lowest first attribute, whole, though no attribute of it is visible
   pub first-tied : standing allSealed 8 (these (0 ∷ 1 ∷ 4 ∷ [])) (these (2 ∷ 3 ∷ 5 ∷ [])) ≡ Out 1 3 (these (0 ∷ 3 ∷ []))
+  -- a lower tied set that lies wholly sealed doesn't fail, nor does one that lies wholly in clear: the higher one is named
+  pub tied-behind : standing allSealed 8 (these (1 ∷ 2 ∷ 4 ∷ [])) (these (0 ∷ 3 ∷ 5 ∷ [])) ≡ Out 1 3 (these (4 ∷ 5 ∷ []))
   -- a tied set of one attribute counts, and lies sealed where that is seen sealed
   pub tied-alone : standing itself 3 (these (0 ∷ [])) 0 ≡ Out 1 3 (these (1 ∷ []))
   pub tied-sealed : standing itself 3 (these (0 ∷ [])) (these (1 ∷ [])) ≡ Candidate

@@ -1,4 +1,5 @@
 -- Laws on nights.
+pub mod Computed
 pub mod Children
 pub mod Views
 pub mod Visible

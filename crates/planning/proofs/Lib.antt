@@ -3,3 +3,4 @@ pub mod Answered
 pub mod Planned
 pub mod Questions
 pub mod Short
+pub mod Once

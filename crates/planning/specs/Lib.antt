@@ -1,2 +1,3 @@
 -- What the planner's entries answer.
 pub mod Answers
+pub mod Once

@@ -42,6 +42,11 @@ abbrev pub placeOf : Says Header → ℕ
 placeOf (answers h) = 0
 placeOf (refuses n p) = p
 
+-- which is which
+pub record ToldNumbers : Type 0 where
+  pub number : numberOf (refuses 5 2) ≡ 5
+  pub place : placeOf (refuses 5 2) ≡ 2
+
 -- the part, and beside it number and place
 abbrev pub GrantsTold : Says Header → List ℕ → List ℕ → ℕ → ℕ → Type 0
 GrantsTold said s part number place = (part ≡ grantsPart said s) × (number ≡ numberOf said) × (place ≡ placeOf said)

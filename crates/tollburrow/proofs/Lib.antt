@@ -1,4 +1,5 @@
 -- What the numbers rest on.
 pub mod Coded
 pub mod Told
+pub mod Once
 pub mod Computed

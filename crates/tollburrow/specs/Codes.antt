@@ -89,6 +89,13 @@ abbrev pub costOr : OfferedPlan → ℕ → ℕ
 costOr (Offered total) before = total
 costOr (NoOffered n p) before = before
 
+-- which number is which, and what stays where nothing is answered
+pub record PlanNumbers : Type 0 where
+  pub total : totalOr (Cheapest 14 76) 5 ≡ 14
+  pub steps : stepsOr (Cheapest 14 76) 5 ≡ 76
+  pub cost : costOr (Offered 14) 5 ≡ 14
+  pub kept : (totalOr (NoCheapest 13 0) 5 ≡ 5) × (stepsOr (NoCheapest 13 0) 5 ≡ 5) × (costOr (NoOffered 14 0) 5 ≡ 5)
+
 -- the verdict on a file, and where its part of grant records lies, as numbers
 abbrev pub GrantsOut : Says Header → ℕ → ℕ → ℕ → ℕ → ℕ → Type 0
 GrantsOut said from length from′ length′ code = (code ≡ codeOf said) × (from′ ≡ partFrom said from) × (length′ ≡ partLength said length)

@@ -1,2 +1,3 @@
 -- What the functions for other languages say.
 pub mod Codes
+pub mod Once

@@ -14,16 +14,14 @@ use Rattle.night.specs.Views.{isFor, grantFor, viewOf}
 use Rattle.trials.specs.Rules.{userBad, countsBad, relationBad, leftOver, subjectThere, grantBad, ownerBad, childBad, leftBad, rightBad, unusedBad, namesBad, shapeBad, leafBad, xBad, yBad, setBad, placeBad, stepBad, pairBad, pairsBad, half, neededBad, mostForStep, mostForLink}
 use Rattle.format.specs.Layout.{grantsFrom, nodesFrom, pairsFrom, pairsIn, stepPricesFrom, linkPricesFrom, fileLength, headerOf, relationAt, grantAt, nodeAt, pairAt, pricesAt, nightIn}
 use Rattle.trials.specs.Trials.{notMarked, notVersioned, headerTrials, takenBefore, pairSeen, isLeafOf, leafBefore, attributesBad, priceIn, mostIn, countIn, trialsOf, section, recordTrials, treeTrials, trials, checkOf}
-use Rattle.trials.specs.Sample.{sample}
 use Rattle.trials.specs.Small.{small}
 use Rattle.trials.specs.Verdicts.{FileVerdicts}
 
 pub file-verdicts : FileVerdicts
-unfolding anyOf be first somewhere inOrder verdict rows upwards bit member union meet minus within apart below single unions known delivers hasPairs lastKind headerLength nodeLength relationOf grantOf nodeOf pairOf stepPrice linkPrice usesLeft usesRight usesX usesY usesSet usesPairs itsPair bothOf pairsRead reads readTogether visibleAfter visibleStep visibles isChild taken isFor grantFor viewOf userBad countsBad relationBad leftOver subjectThere grantBad ownerBad childBad leftBad rightBad unusedBad namesBad shapeBad leafBad xBad yBad setBad placeBad stepBad pairBad pairsBad half neededBad mostForStep mostForLink grantsFrom nodesFrom pairsFrom pairsIn stepPricesFrom linkPricesFrom fileLength headerOf relationAt grantAt nodeAt pairAt pricesAt nightIn notMarked notVersioned headerTrials takenBefore pairSeen isLeafOf leafBefore attributesBad priceIn mostIn countIn trialsOf section recordTrials treeTrials trials checkOf sample small
+unfolding anyOf be first somewhere inOrder verdict rows upwards bit member union meet minus within apart below single unions known delivers hasPairs lastKind headerLength nodeLength relationOf grantOf nodeOf pairOf stepPrice linkPrice usesLeft usesRight usesX usesY usesSet usesPairs itsPair bothOf pairsRead reads readTogether visibleAfter visibleStep visibles isChild taken isFor grantFor viewOf userBad countsBad relationBad leftOver subjectThere grantBad ownerBad childBad leftBad rightBad unusedBad namesBad shapeBad leafBad xBad yBad setBad placeBad stepBad pairBad pairsBad half neededBad mostForStep mostForLink grantsFrom nodesFrom pairsFrom pairsIn stepPricesFrom linkPricesFrom fileLength headerOf relationAt grantAt nodeAt pairAt pricesAt nightIn notMarked notVersioned headerTrials takenBefore pairSeen isLeafOf leafBefore attributesBad priceIn mostIn countIn trialsOf section recordTrials treeTrials trials checkOf small
 file-verdicts =
     record {
       accepted = refl;
-      sample-accepted = refl;
       user-accepted = refl;
       user-unread = refl;
       paired-accepted = refl;
@@ -60,6 +58,8 @@ file-verdicts =
       nodes-many = refl;
       grants-many = refl;
       counts-before-length = refl;
+      counts-least = refl;
+      counts-most = refl;
       user-missing = refl;
       user-any = refl;
       paired-user-missing = refl;

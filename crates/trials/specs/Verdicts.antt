@@ -1,13 +1,14 @@
 -- What `check` says of the small file and of its neighbours: each number with its place, and, where two conditions hold, the earlier one.
 use Prim.Native.Nat.{ℕ, _+_}
 use mathlib.Core.Path.{_≡_}
+use mathlib.Core.Bool.{false}
 use mathlib.Core.List.{List, [], _∷_, _++_}
 use lib.ListN.{take, set, replicate}
 use Rattle.laws.specs.InOrder.{inOrder}
 use Rattle.laws.specs.Trials.{answers, refuses}
 use Rattle.format.specs.Layout.{headerOf}
+use Rattle.trials.specs.Rules.{countsBad}
 use Rattle.trials.specs.Trials.{checkOf}
-use Rattle.trials.specs.Sample.{sample}
 use Rattle.trials.specs.Small.{small, withUser, relationByte, grantByte, nodeByte, priceByte, parentless, twoParentless}
 use Rattle.trials.specs.Small.{aNode, naming, pairing, joining, threePairs, paired, namedTwice}
 
@@ -25,10 +26,8 @@ pairsOf n = inOrder (λ (k : ℕ). 0 ∷ 2 ∷ []) (replicate n 0)
 
 -- 1 to 11
 pub record FileVerdicts : Type 0 where
-  -- accepted: the small file, and the sample night
+  -- accepted: the small file
   pub accepted : checkOf small ≡ answers (record { version = 1; subjects = 2; relations = 2; attributes = 2; nodes = 4; grants = 4; steps = 6; user = 0; pairs = 0 })
-  pub sample-accepted :
-      checkOf sample ≡ answers (record { version = 1; subjects = 6; relations = 2; attributes = 6; nodes = 6; grants = 14; steps = 76; user = 0; pairs = 0 })
   -- in version 2, the small file with a user; in version 1 none is read, whatever stands behind the steps allowed
   pub user-accepted :
       checkOf (withUser 1 small) ≡ answers (record { version = 2; subjects = 2; relations = 2; attributes = 2; nodes = 4; grants = 4; steps = 6; user = 1; pairs = 0 })
@@ -79,6 +78,10 @@ pub record FileVerdicts : Type 0 where
   pub nodes-many : Refused (set small 8 65) 4 0
   pub grants-many : Refused (set (set small 9 1) 10 17) 4 0
   pub counts-before-length : Refused (take 15 (set small 5 0)) 4 0
+  -- counts at their limits, lowest and highest, and the last subject as user, are none
+  pub counts-least : countsBad (record { version = 1; subjects = 1; relations = 1; attributes = 1; nodes = 1; grants = 0; steps = 0; user = 0; pairs = 0 }) ≡ false
+  pub counts-most :
+      countsBad (record { version = 3; subjects = 16; relations = 16; attributes = 64; nodes = 64; grants = 272; steps = 0; user = 15; pairs = 255 }) ≡ false
   pub user-missing : Refused (withUser 2 small) 4 0
   pub user-any : Refused (withUser 255 small) 4 0
   pub paired-user-missing : Refused (set (paired 0) 15 2) 4 0
@@ -161,6 +164,7 @@ pub record FileVerdicts : Type 0 where
   pub eighth-hidden : Refused (pairing 9 (joining 1 8 0) (0 ∷ 0 ∷ (pairsOf 7 ++ (1 ∷ 1 ∷ [])))) 9 2
   -- two nodes that name one pair: the later
   pub pair-named-twice : Refused namedTwice 9 4
+  -- 8 before 9
   pub names-before-pairs : Refused (pairing 1 (joining 0 2 0) (2 ∷ 0 ∷ [])) 8 2
   -- 10: a needed set outside what is read; half of what is read together; the node
   pub needed-unread : Refused (set small (nodeByte 2 23) 1) 10 2

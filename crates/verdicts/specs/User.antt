@@ -15,7 +15,7 @@ use Rattle.verdicts.specs.Refusals.{Rooms, choosingOf, cheapestPlanTrial
 abbrev pub PassesMay : Type 0
 PassesMay = (s : List ℕ) (h : Header) → choosingOf s ≡ answers h → UserMay (nightOf s)
 
--- and no other file is refused with 17: what passes 1 to 11, its user allowed every leaf's table, passes
+-- and 17 refuses no more than that: what passes 1 to 11, its user allowed every leaf's table, passes it
 abbrev pub MayPasses : Type 0
 MayPasses = (s : List ℕ) (h : Header) → checkOf s ≡ answers h → UserMay (nightOf s) → choosingOf s ≡ answers h
 

@@ -1,4 +1,5 @@
--- The table of verdicts: each number of document 01 and of tickets 2026-01 and 2026-02 with its place, and, where two conditions hold, the earlier one.
+-- The table of verdicts: each number of document 01 and of tickets 2026-01 and 2026-02 with its place, also in the version of ticket 2026-05, and, where two
+-- conditions hold, the earlier one.
 use Prim.Native.Nat.{ℕ}
 use mathlib.Core.Path.{_≡_}
 use mathlib.Core.List.{List, [], _∷_, _++_}
@@ -122,7 +123,7 @@ pub record Verdicts : Type 0 where
   -- in version 3: the user may have both leaves, may not have one, and what comes after it
   pub pairs-may : cheapest (joinedOnPairs 2) (room 3 6 8) ≡ answers tt
   pub pairs-user-sealed : cheapest (paired 0) (room 3 6 8) ≡ refuses 17 1
-  pub pairs-user-blind : cheapest (set (joinedOnPairs 0) 15 1) (room 0 0 0) ≡ refuses 17 0
+  pub pairs-user-first : cheapest (set (joinedOnPairs 0) 15 1) (room 0 0 0) ≡ refuses 17 0
   pub pairs-steps-short : cheapest (joinedOnPairs 1) (room 3 6 8) ≡ refuses 13 0
   pub pairs-offered : offered (joinedOnPairs 0) (0 ∷ 1 ∷ 0 ∷ []) (room 0 6 8) ≡ answers tt
   pub pairs-offer-candidate : offered (joinedOnPairs 0) (0 ∷ 1 ∷ 1 ∷ []) (room 0 6 8) ≡ refuses 14 2

@@ -5,14 +5,13 @@ use mathlib.Core.Path.{_≡_}
 use mathlib.Core.Bool.{false}
 use mathlib.Core.List.{List, [], _∷_, _++_}
 use lib.ListN.{length, take, set, replicate}
-use Rattle.laws.specs.BigEndian.{bytes}
 use Rattle.laws.specs.Trials.{answers, refuses}
 use Rattle.night.specs.declared.Header.{Header}
 use Rattle.night.specs.declared.Relation.{Relation}
 use Rattle.night.specs.declared.Grant.{Grant}
 use Rattle.night.specs.declared.Node.{Node}
 use Rattle.night.specs.declared.Pair.{Pair}
-use Rattle.format.specs.Layout.{headerBytes, asRead, relationBytes, grantBytes, nodeBytes, nodeAsRead, nightOf}
+use Rattle.format.specs.Layout.{nightOf}
 use Rattle.trials.specs.Small.{small, withUser, grantByte, threePairs, paired}
 use Rattle.writes.specs.Values.{withHeader, withNodes, Values, rowsOf, nightFrom, fileBytes, valuesOf}
 use Rattle.writes.specs.Writing.{miscounted, writeOf, roomAfter, rewriteOf}
@@ -50,25 +49,6 @@ countedInTwo = headed (counting 1 (aHeader 2 2 2 2 4 4 6 1))
 abbrev pub namedInTwo : Values
 namedInTwo = withNodes (set (smallValues .nodes) 3 (naming 1 2 (aNode 2 2 255 0 255 0 1))) (inTwo 1)
 
--- a node whose bytes are 1, 2, 3, .. 30
-abbrev pub risingNode : Node
-risingNode =
-    record {
-      kind = 1;
-      left = 2;
-      right = 3;
-      x = 4;
-      y = 5;
-      spare1 = 6;
-      spare2 = 7;
-      spare3 = 8;
-      set = 651345242494996240;
-      needed = 1230066625199609624;
-      size = 421141276;
-      first = 29;
-      count = 30;
-    }
-
 -- a pair: left's attribute, right's
 abbrev pub aPair : ℕ → ℕ → Pair
 aPair left right = record { left = left; right = right }
@@ -101,40 +81,11 @@ pub record WriteVerdicts : Type 0 where
   pub night-paired : nightFrom (pairedValues 0) ≡ nightOf (paired 0)
   pub night-pairs : nightFrom (pairedValues 0) .pairs ≡ aPair 200 64 ∷ aPair 0 2 ∷ aPair 1 3 ∷ []
   pub rows-and-columns : rowsOf (1 ∷ 2 ∷ 3 ∷ 4 ∷ 5 ∷ 6 ∷ []) 2 3 ≡ (1 ∷ 2 ∷ 3 ∷ []) ∷ (4 ∷ 5 ∷ 6 ∷ []) ∷ []
-  -- a user, a number of pairs, and the pairs that a node names are read as 0 in a version that has none; all else as it is
-  pub read-one : asRead (counting 10 (aHeader 1 3 4 5 6 7 8 9)) ≡ aHeader 1 3 4 5 6 7 8 0
-  pub read-two : asRead (counting 10 (aHeader 2 3 4 5 6 7 8 9)) ≡ aHeader 2 3 4 5 6 7 8 9
-  pub read-three : asRead (counting 10 (aHeader 3 3 4 5 6 7 8 9)) ≡ counting 10 (aHeader 3 3 4 5 6 7 8 9)
-  pub read-node-two : nodeAsRead 2 risingNode ≡ naming 0 0 risingNode
-  pub read-node-three : nodeAsRead 3 risingNode ≡ risingNode
+  -- a user, a number of pairs, and the pairs that a node names are read as 0 in a version that has none
   pub night-user : nightFrom (headed (aHeader 1 2 2 2 4 4 6 9)) ≡ nightOf small
   pub night-counted : nightFrom countedInTwo ≡ nightOf (withUser 1 small)
   pub night-named : nightFrom namedInTwo ≡ nightOf (withUser 1 small)
-  -- the bytes of a number, its highest first
-  pub two-bytes : bytes 2 258 ≡ 1 ∷ 2 ∷ []
-  pub two-low : bytes 2 3 ≡ 0 ∷ 3 ∷ []
-  pub four-bytes : bytes 4 16909060 ≡ 1 ∷ 2 ∷ 3 ∷ 4 ∷ []
-  -- of a header; before version 3 without the pairs, in version 1 without the user
-  pub header-bytes : headerBytes (counting 14 (aHeader 258 3 4 5 6 1800 151653132 13))
-      ≡ 65 ∷ 88 ∷ 80 ∷ 1 ∷ 2 ∷ 3 ∷ 4 ∷ 5 ∷ 6 ∷ 7 ∷ 8 ∷ 9 ∷ 10 ∷ 11 ∷ 12 ∷ 13 ∷ 14 ∷ []
-  pub header-bytes-one : headerBytes (counting 14 (aHeader 1 3 4 5 6 1800 151653132 13))
-      ≡ 65 ∷ 88 ∷ 80 ∷ 0 ∷ 1 ∷ 3 ∷ 4 ∷ 5 ∷ 6 ∷ 7 ∷ 8 ∷ 9 ∷ 10 ∷ 11 ∷ 12 ∷ []
-  pub header-bytes-two : headerBytes (counting 14 (aHeader 2 3 4 5 6 1800 151653132 13))
-      ≡ 65 ∷ 88 ∷ 80 ∷ 0 ∷ 2 ∷ 3 ∷ 4 ∷ 5 ∷ 6 ∷ 7 ∷ 8 ∷ 9 ∷ 10 ∷ 11 ∷ 12 ∷ 13 ∷ []
-  pub header-bytes-three : headerBytes (counting 14 (aHeader 3 3 4 5 6 1800 151653132 13))
-      ≡ 65 ∷ 88 ∷ 80 ∷ 0 ∷ 3 ∷ 3 ∷ 4 ∷ 5 ∷ 6 ∷ 7 ∷ 8 ∷ 9 ∷ 10 ∷ 11 ∷ 12 ∷ 13 ∷ 14 ∷ []
-  -- of records whose bytes are 1, 2, 3, ..; of a low number, with zeros before it
-  pub relation-bytes : relationBytes (aRelation 1 144964032628459529) ≡ 1 ∷ 2 ∷ 3 ∷ 4 ∷ 5 ∷ 6 ∷ 7 ∷ 8 ∷ 9 ∷ []
-  pub relation-low : relationBytes (aRelation 3 258) ≡ 3 ∷ 0 ∷ 0 ∷ 0 ∷ 0 ∷ 0 ∷ 0 ∷ 1 ∷ 2 ∷ []
-  pub grant-bytes :
-      grantBytes (aGrant 1 2 217304205466536202 796025588171149586)
-      ≡ 1 ∷ 2 ∷ 3 ∷ 4 ∷ 5 ∷ 6 ∷ 7 ∷ 8 ∷ 9 ∷ 10 ∷ 11 ∷ 12 ∷ 13 ∷ 14 ∷ 15 ∷ 16 ∷ 17 ∷ 18 ∷ []
-  pub node-bytes :
-      nodeBytes 2 risingNode
-      ≡ 1 ∷ 2 ∷ 3 ∷ 4 ∷ 5 ∷ 6 ∷ 7 ∷ 8 ∷ 9 ∷ 10 ∷ 11 ∷ 12 ∷ 13 ∷ 14
-      ∷ 15 ∷ 16 ∷ 17 ∷ 18 ∷ 19 ∷ 20 ∷ 21 ∷ 22 ∷ 23 ∷ 24 ∷ 25 ∷ 26 ∷ 27 ∷ 28 ∷ []
-  pub node-bytes-three : nodeBytes 3 risingNode ≡ nodeBytes 2 risingNode ++ (29 ∷ 30 ∷ [])
-  -- of the file: its sections in order; in version 2 with the user, in version 1 without, whatever its value; before version 3 without what names pairs
+  -- the bytes of the file: its sections in order; in version 2 with the user, in version 1 without, whatever its value; before version 3 without what names pairs
   pub file-bytes : fileBytes smallValues ≡ small
   pub file-prices : fileBytes pricedValues ≡ pricedFile
   pub file-own : fileBytes unlikeValues ≡ unlikeFile

@@ -29,6 +29,7 @@ pub enum Written {
 }
 
 // The file of these values, written into the room: the records in the file's order, the pairs as they stand in it, two bytes each, prices row after row.
+// A field that the version doesn't have is dropped without a word. So is a user with version 1: that file is never refused with 17, and delivers to nobody.
 pub fn write<'a, 'p, 'r>(
     h: Header,
     relations: &'a [Relation],

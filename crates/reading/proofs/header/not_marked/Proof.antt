@@ -1,14 +1,17 @@
 -- The tests are the definition's, in its order.
 use borrow.Author.Needs.{needs}
 use Rattle.laws.specs.Choose.{anyOf}
-use Rattle.laws.proofs.Cases.{cases}
+use mathlib.Core.Path.{refl}
+use mathlib.Core.Bool.{true}
+use borrow.Author.Tests.{lt-ltb}
+use Rattle.laws.proofs.Cases.{cases, yes-is}
 use Rattle.trials.specs.Trials.{notMarked}
 use Rattle.reading.proofs.header.not_marked.Statement.{statement}
 use Rattle.reading.proofs.header.not_marked.Tie as tie
 
 returns : tie.Need-returns
 unfolding notMarked anyOf
-returns c = search cases depth 20
+returns c = yes-is _ true true _ (lt-ltb _ 3 (c .if1 .taken)) refl
 
 shared-slice-read-if2 : tie.Need-shared-slice-read-if2
 shared-slice-read-if2 c = search needs

@@ -12,18 +12,14 @@ use Rattle.model.specs.Choice.{Choice}
 use Rattle.model.specs.Plan.{built}
 use Rattle.model.proofs.Once.{least-total, least-once}
 use Rattle.model.proofs.SamePlan.{built-alike, plan-same, keys-same}
 use Rattle.planning.specs.Answers.{Filled, CheapestFilled}
 use Rattle.planning.proofs.Answered.{chosen-promises}
 use Rattle.planning.specs.declared.CheapestPlan.{CheapestPlan}
 use Rattle.planning.specs.declared.CheapestPlan.the-variants.{Cheapest, Refused as NoCheapest}
 use Rattle.planning.specs.declared.OfferedPlan.the-variants.{Offered, Refused as NoOffered}
 use Rattle.planning.specs.declared.OfferedPlan.{OfferedPlan}
-use Rattle.tollburrow.specs.Codes.{codeOf, orElse, cheapestCode, offeredCode, totalOr, stepsOr, costOr}
-use Rattle.writing.specs.Answers.{writtenSaid}
-use Rattle.writing.specs.declared.Written.{Written}
-use Rattle.writing.proofs.Answered.{write-once}
 use Rattle.verdicts.specs.Refusals.{Rooms, cheapestTrials, cheapestPlanTrials, offeredPlanTrials}
-use Rattle.demands.specs.Once.{CheapestPlanOnce, OfferedPlanOnce, CheapestOutOnce, OfferedOutOnce, WriteOutOnce}
+use Rattle.planning.specs.Once.{CheapestPlanOnce, OfferedPlanOnce}
 
 -- a row of trials either passes or refuses, and with one number and place
 not-both : (ts : List Trial) (n p : ℕ) → verdict ts (tt {0}) ≡ answers tt → verdict ts (tt {0}) ≡ refuses n p → ⊥
@@ -77,28 +73,3 @@ offered-once s offer before x y (NoOffered n p) (Offered t) u v = absurd (not-bo
 offered-once s offer before x y (NoOffered n p) (NoOffered m q) u v =
     let same = one-refusal (offeredPlanTrials s offer before) n p m q (u .0) (v .0) in
     (rw (same .0, same .1) refl, u .1 ∙ sym (v .1))
-
-pub cheapest-out-once : CheapestOutOnce
-cheapest-out-once s before x y total steps t k code t′ k′ code′ u v =
-    let same = cheapest-once s before x y (u .said) (v .said) (u .says) (v .says) in (
-      same .1,
-      u .its-total ∙ ap (λ (a : CheapestPlan). totalOr a total) (same .0) ∙ sym (v .its-total),
-      u .its-steps ∙ ap (λ (a : CheapestPlan). stepsOr a steps) (same .0) ∙ sym (v .its-steps),
-      u .its-code ∙ ap cheapestCode (same .0) ∙ sym (v .its-code),
-    )
-
-pub offered-out-once : OfferedOutOnce
-offered-out-once s offer before x y total t code t′ code′ u v =
-    let same = offered-once s offer before x y (u .said) (v .said) (u .says) (v .says) in (
-      same .1,
-      u .its-total ∙ ap (λ (a : OfferedPlan). costOr a total) (same .0) ∙ sym (v .its-total),
-      u .its-code ∙ ap offeredCode (same .0) ∙ sym (v .its-code),
-    )
-
-pub write-out-once : WriteOutOnce
-write-out-once vs before x y length l code l′ code′ p q =
-    let same = write-once vs before x y (p .said) (q .said) (p .says) (q .says) in (
-      same .1,
-      p .its-length ∙ ap (λ (r : Written). orElse (writtenSaid r) length) (same .0) ∙ sym (q .its-length),
-      p .its-code ∙ ap (λ (r : Written). codeOf (writtenSaid r)) (same .0) ∙ sym (q .its-code),
-    )
