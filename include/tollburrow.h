@@ -3,6 +3,9 @@
  * Every function takes any bytes or values and ends. It returns 0, or the refusal as number * 2^32 + place (the numbers and places of the rules' table). A refusal
  * writes nothing anywhere.
  *
+ * What a subject sees, and with it the candidates, the reasons, both choices and refusals 7 and 17, is of the night's day, which a file of version 4 names;
+ * before version 4 every grant is in force on every day.
+ *
  * Of its caller a function asks this much of the pointers:
  * - A file, an offer, records, pairs, prices or a room that are passed with a length have that many elements there. With a length of 0 any pointer will do, a null
  *   pointer too.
@@ -52,15 +55,20 @@ uint64_t tollburrow_cheapest(const uint8_t *file, uint64_t file_length, uint8_t 
 uint64_t tollburrow_offered(const uint8_t *file, uint64_t file_length, const uint8_t *offer, uint64_t offer_length, uint64_t *plan, uint64_t plan_length,
                             uint64_t *keys, uint64_t keys_length, uint64_t *total);
 
-/* The values of a plan file, every field as it stands there. A field that the version doesn't have means nothing: it is not written, and read back as 0.
- * These are the user in version 1, and in versions 1 and 2 the number of pairs and a node's first and count. So a user that is handed in with version 1 is
- * dropped without a word: the file names nobody, is never refused with 17, and delivers to nobody. */
+/* The values of a plan file, every field as it stands there. A field that the version doesn't have means nothing: it is not written, and read back as 0,
+ * a grant's last day as 65535. These are the user in version 1, in versions 1 and 2 the number of pairs and a node's first and count, and before version 4
+ * the night's day and a grant's days. So a user that is handed in with version 1 is dropped without a word: the file names nobody, is never refused with
+ * 17, and delivers to nobody; and days that are handed in before version 4 are dropped too: each grant is in force on every day.
+ * The fields of version 4, day, first and last, stand where there was padding. So the sizes, 16 and 24 bytes, and the places of the other fields are what they
+ * were, and a program compiled without them may go on writing versions 1 to 3. Source text that lists a grant's values without their names has to list the
+ * days too. */
 struct tollburrow_header {
   uint16_t version;
   uint8_t subjects, relations, attributes, nodes;
   uint16_t grants;
   uint32_t steps;
   uint8_t user, pairs;
+  uint16_t day; /* the night's */
 };
 
 struct tollburrow_relation {
@@ -68,9 +76,10 @@ struct tollburrow_relation {
   uint64_t set;
 };
 
-/* subject 255 is any */
+/* subject 255 is any; in force from the first day to the last, both included, 0 to 65535 where it always is */
 struct tollburrow_grant {
   uint8_t relation, subject;
+  uint16_t first, last;
   uint64_t clear, sealed;
 };
 

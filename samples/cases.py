@@ -2,7 +2,7 @@
 """Writes the cases that the program answers is run on, and what document 01 says of each, by hand. Run from the repository's root."""
 import struct
 
-from night import houses, sample, with_user
+from night import cycle, houses, sample, with_user
 
 PLANNED = """node 0 subject 0 opens - seals 0,2,3
 node 1 subject %d opens - seals -
@@ -26,6 +26,9 @@ SAMPLE = "grants 33 252\n" + CANDIDATES
 # with a user the grants stand a byte further; U opens T, attribute 3, which is delivered sealed
 WITH_USER = "grants 34 252\n" + CANDIDATES
 DELIVERED = PLANNED.replace("attributes 3 holders 0\n", "attributes 3 holders 0,2\n")
+# the day after Y's crop cycle: a header of 19 bytes, 15 grants of 22; Y sees P sealed, so that U alone may run the last select
+DAY_AFTER = "grants 37 330\n" + CANDIDATES.replace("candidates 5 2,4\n", "candidates 5 2\n")
+BY_U = DELIVERED.replace("node 5 subject 4", "node 5 subject 2").replace("holders 1,4", "holders 1,2")
 # harvest and climate by house and cycle: the first rented machine opens the house's pair and leaves the cycle's sealed, the adviser opens what is delivered
 BY_HOUSE = """grants 35 180
 candidates 0 -
@@ -60,6 +63,12 @@ CASES = [
         bytes([0, 1, 0, 1, 1]),
         (64, 128, 128),
         BY_HOUSE + "total 23 steps 20\n" + HOUSES % (3, "0,1,2,3") + "offered total 24\n" + HOUSES % (0, "0,1,2") + "rooms kept\n",
+    ),
+    (
+        cycle(191),
+        bytes([0, 1, 1, 3, 3, 4]),
+        (64, 128, 128),
+        DAY_AFTER + "total 22 steps 71\n" + BY_U % 0 + "offered refused 14 place 5\nrooms kept\n",
     ),
     (with_user(sample(), 0), bytes(5), (0, 0, 0), WITH_USER + "refused 17 place 2\noffered refused 17 place 2\nrooms kept\n"),
 ]

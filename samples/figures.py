@@ -6,7 +6,7 @@ the houses, joined on pairs; or a leaf alone; or a file of the greatest length. 
 """
 import struct
 
-from night import all_kinds, alone, houses, longest, parted, reasons, sample, with_pairs, with_user
+from night import all_kinds, alone, cycle, houses, longest, parted, reasons, sample, with_days, with_pairs, with_user
 
 # name, length, bytes changed, what document 01 says
 FIGURES = [
@@ -17,11 +17,12 @@ FIGURES = [
     ("1 two bytes", 2, {}, "refused 1 place 0"),
     ("1 no bytes", 0, {}, "refused 1 place 0"),
     ("2 version 0", 741, {4: 0}, "refused 2 place 0"),
-    ("2 version 4", 741, {4: 4}, "refused 2 place 0"),
+    ("2 version 5", 741, {4: 5}, "refused 2 place 0"),
     ("2 version 257", 741, {3: 1}, "refused 2 place 0"),
     ("2 version 258", 741, {3: 1, 4: 2}, "refused 2 place 0"),
     ("2 version 259", 741, {3: 1, 4: 3}, "refused 2 place 0"),
     ("3 version 3, whose nodes are longer", 741, {4: 3}, "refused 3 place 0"),
+    ("3 version 4, whose grants are longer too", 741, {4: 4}, "refused 3 place 0"),
     ("2 four bytes", 4, {}, "refused 2 place 0"),
     ("3 fourteen bytes", 14, {}, "refused 3 place 0"),
     ("3 fourteen bytes and no subject", 14, {5: 0}, "refused 3 place 0"),
@@ -260,6 +261,36 @@ WITH_PAIRS = [
 ]
 
 
+def on_day(days, subject=4):
+    """Harvest and climate in version 4, on day 100, with these days of grants, and its grant 4 to this subject."""
+    file = with_days(houses(), 100, days)
+    return changed(file, len(file), {19 + 2 * 9 + 4 * 22 + 1: subject})
+
+
+LONGEST_OF_4 = with_days(LONGEST_OF_3, 65535, {})
+WITH_DAYS = [
+    ("harvest and climate, grants of every day", on_day({}), "accepted"),
+    ("harvest and climate, the owners' grants of day 100 alone", on_day({0: (100, 100), 6: (100, 100)}), "accepted"),
+    ("two grants for a pair, before day 100 and from it on", on_day({3: (0, 99), 4: (100, 300)}, 3), "accepted"),
+    ("two grants for a pair, the later days first", on_day({3: (100, 300), 4: (0, 99)}, 3), "accepted"),
+    ("6 two grants for a pair, both on day 100", on_day({3: (0, 100), 4: (100, 300)}, 3), "refused 6 place 4"),
+    ("6 two grants for a pair, the later days first, both on day 256", on_day({3: (256, 300), 4: (0, 256)}, 3), "refused 6 place 4"),
+    ("6 two grants for a pair on other days than 100", on_day({3: (7, 9), 4: (8, 8)}, 3), "refused 6 place 4"),
+    ("6 a first day after the last", on_day({3: (300, 299)}), "refused 6 place 3"),
+    ("7 the owner's grant ended on day 99", on_day({0: (0, 99)}), "refused 7 place 0"),
+    ("7 the second owner's grant starts on day 101", on_day({6: (101, 65535)}), "refused 7 place 1"),
+    ("6 before 7, both by days", on_day({0: (0, 99), 9: (2, 1)}), "refused 6 place 9"),
+    ("2 eighteen bytes of version 260", b"AXP\1\4" + on_day({})[5:18], "refused 2 place 0"),
+    ("3 eighteen bytes of version 4, no subject", changed(on_day({}), 18, {5: 0}), "refused 3 place 0"),
+    ("4 nineteen bytes of version 4, no subject", changed(on_day({}), 19, {5: 0}), "refused 4 place 0"),
+    ("3 610 bytes of version 4", on_day({})[:-1], "refused 3 place 0"),
+    ("the sample night in a crop cycle", cycle(190), "accepted"),
+    ("6 the crop cycle's last day is the next one's first", cycle(191, 190), "refused 6 place 12"),
+    ("the longest file of version 4, 13,697 bytes", LONGEST_OF_4, "accepted"),
+    ("3 13,696 bytes of version 4", LONGEST_OF_4[:-1], "refused 3 place 0"),
+]
+
+
 # the entries, by the number that a case has
 CHECK, CHEAPEST, OFFERED, WHY, REWRITE = range(5)
 WIDE = (64, 128, 128)
@@ -307,6 +338,11 @@ CHEAPESTS = [
     ("17 the laboratory asks for the harvest", houses(user=1), WIDE, "refused 17 place 0"),
     ("15 plan by house and cycle", houses(), (5, 9, 12), "refused 15 place 2"),
     ("cheapest, the sample's join as a join on one pair", ON_ONE_PAIR, EXACT, "total 14 steps 76"),
+    ("cheapest by house and cycle, the first machine's last day", on_day({3: (0, 100), 8: (99, 100)}), WIDE, "total 23 steps 20"),
+    ("17 the adviser's grant ended on day 99", on_day({2: (0, 99)}), WIDE, "refused 17 place 0"),
+    ("cheapest the day before the crop cycle, where any serves Y", cycle(99), EXACT, "total 22 steps 54"),
+    ("cheapest on the crop cycle's last day", cycle(190), EXACT, "total 14 steps 76"),
+    ("cheapest the day after", cycle(191), EXACT, "total 22 steps 71"),
     ("cheapest of a leaf alone, its owner as user", with_user(allowed(alone([(0, 0, 1, 0)]), 0), 0), (1, 2, 2), "total 0 steps 0"),
 ]
 # the same with the offered choice before the rooms
@@ -330,6 +366,8 @@ OFFERS = [
     ("15 keys, offered", sample(), SAMPLE_CHOICE, (0, 12, 11), "refused 15 place 3"),
     ("offered, U as user", with_user(sample(), 2), SAMPLE_CHOICE, WIDE, "total 14"),
     ("offered, the grower joins by house and cycle", houses(), bytes([0, 1, 0, 1, 1]), WIDE, "total 24"),
+    ("offered, the first machine on its first day", on_day({3: (100, 200)}), bytes([0, 1, 3, 1, 1]), WIDE, "total 23"),
+    ("14 the first machine, a day early", on_day({3: (101, 200)}), bytes([0, 1, 3, 1, 1]), WIDE, "refused 14 place 2"),
     ("14 who sees half of the cycle in clear", houses(), bytes([0, 1, 4, 1, 1]), WIDE, "refused 14 place 2"),
     ("offered, the sample's join as a join on one pair", ON_ONE_PAIR, SAMPLE_CHOICE, WIDE, "total 14"),
     ("17 before 14 and 15, H as user", with_user(sample(), 0), bytes(5), (0, 0, 0), "refused 17 place 2"),
@@ -366,6 +404,9 @@ WHYS = [
     ("why, the first machine, the cycle needed too", changed(houses(), 569, join(needed=0b011011)), 2, 3, "left 1 1"),
     ("why, the first machine, house with house and house with cycle", changed(houses(), 569, join(p2=0, needed=0)), 2, 3, "result 3 0,3,4"),
     ("why, I at the join on one pair", ON_ONE_PAIR, 3, 1, "result 3 0,4"),
+    ("why, the first machine, whose grant ended on day 99", on_day({3: (0, 99)}), 2, 3, "left 1 0"),
+    ("why, Y at the last select, the day after the crop cycle", cycle(191), 5, 4, "left 1 5"),
+    ("why, Y at the join, the day before", cycle(99), 3, 4, "right 2 4"),
     ("16 a leaf", sample(), 0, 0, "refused 16 place 0"),
     ("16 the last leaf", sample(), 2, 1, "refused 16 place 2"),
     ("16 a leaf alone", alone([(0, 0, 1, 0)]), 0, 0, "refused 16 place 0"),
@@ -380,7 +421,7 @@ WHYS = [
     ("why, I at the join, where X asked", with_user(sample(), 3), 3, 1, "result 3 0,4"),
 ]
 # room for any file
-LONGEST = 12607
+LONGEST = 13697
 # name, file, length of the room, what ticket 2026-04 says of the file written again from its values; all else in the room has to stay
 REWRITES = [
     ("rewritten, the sample night", sample(), LONGEST, "741 bytes"),
@@ -399,6 +440,11 @@ REWRITES = [
     ("15 568 bytes of room, harvest and climate", houses(), 568, "refused 15 place 4"),
     ("rewritten, the longest file of version 3", LONGEST_OF_3, LONGEST, "12607 bytes"),
     ("15 12,606 bytes of room for 12,607", LONGEST_OF_3, 12606, "refused 15 place 4"),
+    ("rewritten, harvest and climate, with days", on_day({3: (7, 300), 4: (301, 302)}, 3), 611, "611 bytes"),
+    ("15 610 bytes of room, with days", on_day({}), 610, "refused 15 place 4"),
+    ("rewritten, 6 both on day 100, before 15", on_day({3: (0, 100), 4: (100, 300)}, 3), 0, "refused 6 place 4"),
+    ("rewritten, the longest file of version 4", LONGEST_OF_4, LONGEST, "13697 bytes"),
+    ("15 13,696 bytes of room for 13,697", LONGEST_OF_4, 13696, "refused 15 place 4"),
     ("rewritten, 8 the last pair past the list", changed(houses(), 569, join(first=1)), LONGEST, "refused 8 place 2"),
     ("rewritten, 9 left's and right's exchanged", changed(houses(), 569, join(p0=3, p1=0)), LONGEST, "refused 9 place 2"),
     ("rewritten, 10 half a pair", changed(houses(), 569, join(needed=1)), 0, "refused 10 place 2"),
@@ -434,12 +480,12 @@ def first_of_each(cases):
 def main():
     cases = [(name, changed(sample(), length, edits), said) for name, length, edits, said in FIGURES]
     cases += [(name, changed(all_kinds(), len(all_kinds()), edits), said) for name, edits, said in KINDS]
-    cases += OTHERS + WITH_USER + [(name, changed(houses(), 569, edits), said) for name, edits, said in HOUSES] + WITH_PAIRS
+    cases += OTHERS + WITH_USER + [(name, changed(houses(), 569, edits), said) for name, edits, said in HOUSES] + WITH_PAIRS + WITH_DAYS
     refused = list(first_of_each(cases))
     with open("crates/facts/stdin", "wb") as given, open("crates/facts/stdout", "w", encoding="ascii") as expected:
         for name, file, said in cases:
             given.write(case(name, CHECK, (0, 0, 0), b"", file))
-            grants = 18 * int.from_bytes(file[9:11], "big") if said == "accepted" else 0
+            grants = (22 if file[4:5] == b"\4" else 18) * int.from_bytes(file[9:11], "big") if said == "accepted" else 0
             expected.write("%s: %s, %d bytes of grants\n" % (name, said, grants))
         for name, file, rooms, said in CHEAPESTS + [("cheapest, " + name, file, WIDE, said) for name, file, said in refused]:
             given.write(case(name, CHEAPEST, rooms, b"", file))

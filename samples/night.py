@@ -1,6 +1,7 @@
 #!/usr/bin/env python3
 """Writes document 01's sample night as samples/night.axp, with U as user as samples/night2.axp, and in the specs as a list of bytes and as
-values; samples/reasons.axp; and samples/houses.axp, a join on two pairs.
+values; samples/reasons.axp; samples/houses.axp, a join on two pairs; and samples/cycle99.axp, cycle190.axp and cycle191.axp, a grant for one crop
+cycle.
 The files of the specs are laid out by `rt fmt` afterwards.
 
 Run from the repository's root. The grants are those of figure 4 of source document 004.
@@ -31,6 +32,9 @@ LINK_PRICE = 1
 STEPS_ALLOWED = 76
 # who asks for samples/night2.axp
 USER = "U"
+# the crop cycle for which Y's grant on INS is in force in samples/cycle99.axp, cycle190.axp and cycle191.axp, and the nights of these
+FIRST_DAY, LAST_DAY = 100, 190
+CYCLE_NIGHTS = (99, 190, 191)
 
 
 def bits(names):
@@ -77,10 +81,29 @@ def with_pairs(data, user, named, pairs):
     return b"".join(parts + [bytes(pair) for pair in pairs] + [data[prices:]])
 
 
-def sample():
+def with_days(data, day, days):
+    """A file of version 3 in version 4: with the night's day behind the number of pairs, and behind each grant its first and last day, every day where
+    none are given."""
+    start = 17 + 9 * data[6]
+    nodes = start + 18 * int.from_bytes(data[9:11], "big")
+    parts = [data[:3], struct.pack(">H", 4), data[5:17], struct.pack(">H", day), data[17:start]]
+    parts += [data[at : at + 18] + struct.pack(">HH", *days.get(i, (0, 65535))) for i, at in enumerate(range(start, nodes, 18))]
+    return b"".join(parts + [data[nodes:]])
+
+
+def sample(granted=None):
+    """The sample night, or the same with other grants."""
     relations = [(SUBJECTS.index(owner), bits(names)) for owner, names, _ in RELATIONS]
     nodes = [(k, left, right, number(x), number(y), bits(held), bits(needed), size) for k, left, right, x, y, held, needed, size in NODES]
-    return file_of(len(SUBJECTS), len(ATTRIBUTES), relations, list(grants()), nodes, STEP_PRICES, LINK_PRICE)
+    return file_of(len(SUBJECTS), len(ATTRIBUTES), relations, granted or list(grants()), nodes, STEP_PRICES, LINK_PRICE)
+
+
+def cycle(day, after=LAST_DAY + 1):
+    """The sample night in version 4, asked for by U: Y's grant on INS is for one crop cycle, and from the day `after` on Y has both columns sealed."""
+    granted, of_y = list(grants()), (1, SUBJECTS.index("Y"))
+    at = [grant[:2] for grant in granted].index(of_y)
+    granted.insert(at + 1, (*of_y, 0, bits("CP")))
+    return with_days(with_pairs(sample(granted), SUBJECTS.index(USER), {}, ()), day, {at: (FIRST_DAY, LAST_DAY), at + 1: (after, 65535)})
 
 
 def all_kinds():
@@ -205,7 +228,7 @@ def decoded():
     """The sample night's values as a record of the specs."""
     s = len(SUBJECTS)
     relations = [value("owner set", (SUBJECTS.index(owner), bits(names))) for owner, names, _ in RELATIONS]
-    granted = [value("relation subject clear sealed", grant) for grant in grants()]
+    granted = [value("relation subject first last clear sealed", (r, who, 0, 65535, clear, sealed)) for r, who, clear, sealed in grants()]
     fields = "kind left right x y spare1 spare2 spare3 set needed size first count"
     nodes = [value(fields, (k, l, r, number(x), number(y), 0, 0, 0, bits(held), bits(needed), size, 0, 0)) for k, l, r, x, y, held, needed, size in NODES]
     steps = [[0] * s if node[0] == LEAF else STEP_PRICES for node in NODES]
@@ -213,7 +236,7 @@ def decoded():
     lists = [[" ∷ ".join("%d" % price for price in row) + " ∷ []" for row in table] for table in (steps, links)]
     counts = (s, len(RELATIONS), len(ATTRIBUTES), len(NODES), len(granted), STEPS_ALLOWED)
     header = value("subjects relations attributes nodes grants steps", counts)
-    parts = [("header", " " + header.replace("{ ", "{ version = version; ").replace(" }", "; user = user; pairs = 0 }"))]
+    parts = [("header", " " + header.replace("{ ", "{ version = version; ").replace(" }", "; user = user; pairs = 0; day = 0 }"))]
     for name, items in [("relations", relations), ("grants", granted), ("nodes", nodes)]:
         parts.append((name, rows(items)))
     parts.append(("pairs", " []"))
@@ -232,6 +255,9 @@ def main():
         out.write(reasons())
     with open("samples/houses.axp", "wb") as out:
         out.write(houses())
+    for day in CYCLE_NIGHTS:
+        with open("samples/cycle%d.axp" % day, "wb") as out:
+            out.write(cycle(day))
     with open("crates/demands/specs/Sample.antt", "w", encoding="utf-8") as out:
         out.write(
             "-- Document 01's sample night as bytes, written by samples/night.py.\n"

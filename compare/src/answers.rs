@@ -1,8 +1,8 @@
 //! The program `answers`: cases over its standard input, its lines compared.
 
 use crate::coverage::{Line, line};
-use crate::file::VERSIONS;
 use crate::generate::{Case, LONGEST_OFFER, LONGEST_TAKEN};
+use crate::layout::VERSIONS;
 use crate::planner::{Rooms, Study, study};
 use crate::program::printed;
 use crate::reading::Refusal;
@@ -45,7 +45,7 @@ impl Stream {
         let sent = line("cases through answers", self.expected.len(), wanted);
         let of_version = |(version, &read): (usize, &usize)| {
             let what = format!("readable files of version {version} through answers");
-            line(&what, read, wanted * 3 / 20)
+            line(&what, read, wanted * 11 / 100)
         };
         [sent].into_iter().chain((1..).zip(&self.read).map(of_version)).collect()
     }

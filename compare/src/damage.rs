@@ -1,12 +1,17 @@
 //! Faults of valid files: each field of each record out of its range, or
 //! within it but against another rule.
 
+use crate::days::Days;
 use crate::file::*;
+use crate::layout::{DAY_AT, DAYS_AT, NAMED_AT, PAIRS_AT, RELATION, USER_AT};
 use crate::rng::Rng;
 
 /// Versions that there are not, some of which would be if only one of the two
 /// bytes were read, or the two in the other order.
-pub const OTHER_VERSIONS: [u64; 8] = [0, 4, 256, 257, 258, 259, 512, 768];
+pub const OTHER_VERSIONS: [u64; 10] = [0, 5, 256, 257, 258, 259, 260, 512, 768, 1_024];
+
+/// So many grants give days for the night's.
+const SOME_GRANTS: usize = 6;
 
 /// Bytes put in the place of others.
 pub struct Patch {
@@ -66,7 +71,7 @@ impl Patches<'_> {
             self.number(at, 1, &[0, u64::from(letter ^ 32), 255]);
         }
         self.number(3, 2, &OTHER_VERSIONS);
-        self.number(3, 2, &[1, 2, 3, 65_535]);
+        self.number(3, 2, &[1, 2, 3, 4, 65_535]);
         for (at, limit) in [(5, 16), (6, 16), (7, 64), (8, 64)] {
             let count = u64::from(self.written[at]);
             self.number(at, 1, &[0, limit, limit + 1, 255, count - 1, count + 1]);
@@ -79,6 +84,27 @@ impl Patches<'_> {
             let pairs = self.file.list().len() as u64;
             self.number(PAIRS_AT, 1, &[0, 255, pairs.saturating_sub(1), (pairs + 1).min(255)]);
         }
+        self.night();
+    }
+
+    /// Another night's day: next to the one that stands, at the ends, and of some grants
+    /// the first and the last day and those before and after them.
+    fn night(&mut self) {
+        let Some(day) = self.file.day else { return };
+        self.day(DAY_AT, &[0, i64::from(day) - 1, i64::from(day) + 1, 65_535]);
+        for _ in 0..SOME_GRANTS {
+            let Days { first, last } =
+                self.file.grants[self.rng.below(self.file.grants.len())].days;
+            let [first, last] = [first, last].map(i64::from);
+            self.day(DAY_AT, &[first - 1, first, last, last + 1]);
+        }
+    }
+
+    /// Days in the place of one, as far as there are such.
+    fn day(&mut self, at: usize, days: &[i64]) {
+        let days: Vec<u64> =
+            days.iter().filter_map(|&day| u16::try_from(day).ok()).map(u64::from).collect();
+        self.number(at, 2, &days);
     }
 
     /// Every other user, and numbers that nobody has: the first of them, and some
@@ -104,18 +130,36 @@ impl Patches<'_> {
 
     fn grants(&mut self) {
         let (subjects, relations) = (self.file.subjects, self.file.relations.len());
+        let layout = self.file.layout();
         for index in 0..self.file.grants.len() {
-            let at = self.file.layout().grants + GRANT * index;
+            let at = layout.grant_at(index);
             let (relation, subject) = (self.rng.below(relations), self.rng.below(subjects));
             self.number(at, 1, &[relations as u64, 16, 255, relation as u64]);
             self.number(at + 1, 1, &[subjects as u64, 254, 255, subject as u64]);
             self.set(at + 2);
             self.set(at + 10);
             // The pair of an earlier or later grant, its sets left as they are.
-            let twin = self.file.layout().grants + GRANT * self.rng.below(self.file.grants.len());
+            let twin = layout.grant_at(self.rng.below(self.file.grants.len()));
             self.copy(twin, at, 2);
             self.seal_one(at);
+            if self.file.day.is_some() {
+                self.days(index, at + DAYS_AT);
+            }
         }
+    }
+
+    /// A first day after the last, one day alone, one day longer on either side, up to
+    /// the night's day and not so far, all days, and those of another grant of the pair.
+    fn days(&mut self, index: usize, at: usize) {
+        let grant = &self.file.grants[index];
+        let day = i64::from(self.file.nights_day());
+        let [first, last] = [grant.days.first, grant.days.last].map(i64::from);
+        let of_pair = |other: &&Grant| other.same_pair(grant) && other.days != grant.days;
+        let other = self.file.grants.iter().find(of_pair).unwrap_or(grant).days;
+        self.day(at, &[last + 1, last, first - 1, day, day + 1, other.last.into()]);
+        self.day(at + 2, &[first - 1, first, last + 1, day, day - 1, other.first.into()]);
+        self.number(at, 4, &[65_535, 65_535 << 16]);
+        self.number(at, 4, &[u64::from(other.first) << 16 | u64::from(other.last)]);
     }
 
     /// The lowest attribute seen in clear becomes sealed: an owner's view is

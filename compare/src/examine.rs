@@ -1,14 +1,16 @@
 //! What the planner must hold against itself on one case, library or none.
 
+use crate::calendar;
 use crate::choice;
 use crate::coverage::Coverage;
 use crate::every;
 use crate::failing::{Failing, Steps};
-use crate::generate::Case;
+use crate::generate::{Case, Made};
 use crate::planner::{Answer, Study};
 use crate::reading::Refusal;
 use crate::run;
 use crate::twins;
+use crate::values::Values;
 use crate::why::Verdict;
 use crate::whys;
 
@@ -23,9 +25,12 @@ pub fn examine(
 ) -> Result<(), String> {
     coverage.pointers(case, study.is_ok());
     if let Some(known) = &case.known {
-        coverage.pairs.fault(known);
-        if study.as_ref().err() != Some(&known.refusal) {
-            let given = study.as_ref().err();
+        match known.made {
+            Made::Pair(fault) => coverage.pairs.fault(fault),
+            Made::Day(trial) => coverage.days.trial(trial),
+        }
+        let given = study.as_ref().err();
+        if given != known.verdict.as_ref() {
             return Err(format!("made for {known:?}, but read with {given:?}"));
         }
     }
@@ -34,8 +39,21 @@ pub fn examine(
         Err(refusal) => {
             coverage.refused(&[*refusal]);
             coverage.users.refused(&case.file);
-            Ok(())
+            grants_wrong(case, refusal, coverage)
         }
+    }
+}
+
+/// A grant refused with 6 is wrong by its values, too, and none before it is.
+fn grants_wrong(case: &Case, refusal: &Refusal, coverage: &mut Coverage) -> Result<(), String> {
+    let Ok(values) = Values::of(&case.file) else { return Ok(()) };
+    coverage.days.refused(&values, refusal);
+    let wrong = |place: usize| calendar::wrong(&values, place).is_some();
+    match (0..values.grants.len()).find(|&place| wrong(place)) {
+        Some(place) if refusal.number == 6 && refusal.place == place as u64 => Ok(()),
+        None if refusal.number != 6 => Ok(()),
+        Some(_) if refusal.number < 6 => Ok(()),
+        found => Err(format!("wrong by its values is grant {found:?}, but {refusal:?}")),
     }
 }
 
@@ -50,6 +68,7 @@ fn examine_read(
     if study.file.write() != case.file {
         return Err("the file written again is another".into());
     }
+    calendar::hold(study)?;
     user_stands(study)?;
     twins::hold(case, study, verdicts, coverage)?;
     two_ways(study, coverage)?;
@@ -89,6 +108,7 @@ fn examine_answers(case: &Case, study: &Study, coverage: &mut Coverage) -> Resul
     }
     coverage.users.read(study, case, &answers);
     coverage.pairs.read(study, &answers);
+    coverage.days.read(study, cheapest.is_ok(), offered.is_ok());
     Ok(())
 }
 

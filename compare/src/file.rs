@@ -1,24 +1,13 @@
 //! The plan file: what it holds, and how it is written. Reading is apart.
 
+use crate::days::Days;
+use crate::layout::{Counts, Layout, form_of};
 use crate::sets::Flags;
 
-/// Versions 1 to 3; each keeps what earlier ones have added.
-pub const VERSIONS: usize = 3;
-/// How long the header of version 1 is. Version 2 puts the user behind it,
-/// version 3 the number of pairs behind the user.
-const HEADER: usize = 15;
-pub const USER_AT: usize = HEADER;
-pub const PAIRS_AT: usize = HEADER + 1;
-pub const RELATION: usize = 9;
-pub const GRANT: usize = 18;
-/// Where the record of a node ends in version 1; from version 3 on the number of
-/// its first pair and a count follow.
-pub const NAMED_AT: usize = 28;
-/// How long a file of each version can be, every count at its limit.
-pub const LONGEST: [usize; VERSIONS] = [11_967, 11_968, 12_607];
 /// How many pairs a join may have, and how many the list.
 pub const MOST_JOINED: usize = 8;
 pub const MOST_PAIRS: usize = 255;
+pub const MOST_GRANTS: usize = 272;
 pub const ANY: u8 = 255;
 pub const UNUSED: u8 = 255;
 pub const MOST_SIZE: u64 = 1_000_000;
@@ -38,6 +27,15 @@ pub struct Grant {
     pub subject: Option<usize>,
     pub clear: Flags,
     pub sealed: Flags,
+    /// When it is in force: before version 4 on all days.
+    pub days: Days,
+}
+
+impl Grant {
+    /// Whether both are of one relation and to one subject, any counted as one.
+    pub fn same_pair(&self, other: &Grant) -> bool {
+        self.relation == other.relation && self.subject == other.subject
+    }
 }
 
 /// A node's kind together with just what that kind uses.
@@ -184,6 +182,8 @@ pub struct File {
     pub user: Option<usize>,
     /// The list of pairs as it stands: from version 3 on there is one.
     pub pairs: Option<Vec<[u8; 2]>>,
+    /// The night's day: from version 4 on there is one.
+    pub day: Option<u16>,
     pub subjects: usize,
     pub attributes: usize,
     pub allowed: u32,
@@ -192,63 +192,6 @@ pub struct File {
     pub nodes: Vec<Node>,
     pub step_prices: Vec<Vec<u64>>,
     pub link_prices: Vec<Vec<u64>>,
-}
-
-/// How long the header and the record of a node are.
-#[derive(Clone, Copy)]
-pub struct Form {
-    pub header: usize,
-    pub node: usize,
-}
-
-/// The form of a version, if there is such a version.
-pub fn form_of(version: u64) -> Option<Form> {
-    match version {
-        1 => Some(Form { header: HEADER, node: NAMED_AT }),
-        2 => Some(Form { header: HEADER + 1, node: NAMED_AT }),
-        3 => Some(Form { header: HEADER + 2, node: NAMED_AT + 2 }),
-        _ => None,
-    }
-}
-
-/// The counts that tell how long the sections are.
-pub struct Counts {
-    pub form: Form,
-    pub subjects: usize,
-    pub relations: usize,
-    pub grants: usize,
-    pub nodes: usize,
-    pub pairs: usize,
-}
-
-/// Where each section starts, and how far apart the nodes are.
-pub struct Layout {
-    pub relations: usize,
-    pub grants: usize,
-    pub nodes: usize,
-    pub node: usize,
-    pub pairs: usize,
-    pub step_prices: usize,
-    pub link_prices: usize,
-    pub end: usize,
-}
-
-impl Layout {
-    pub fn of(counts: &Counts) -> Layout {
-        let Form { header, node } = counts.form;
-        let relations = header;
-        let grants = relations + RELATION * counts.relations;
-        let nodes = grants + GRANT * counts.grants;
-        let pairs = nodes + node * counts.nodes;
-        let step_prices = pairs + 2 * counts.pairs;
-        let link_prices = step_prices + 4 * counts.nodes * counts.subjects;
-        let end = link_prices + 4 * counts.subjects * counts.subjects;
-        Layout { relations, grants, nodes, node, pairs, step_prices, link_prices, end }
-    }
-
-    pub fn node_at(&self, index: usize) -> usize {
-        self.nodes + self.node * index
-    }
 }
 
 impl File {
@@ -264,11 +207,17 @@ impl File {
     }
 
     pub fn version(&self) -> usize {
-        match (self.user, &self.pairs) {
-            (None, _) => 1,
-            (Some(_), None) => 2,
-            (Some(_), Some(_)) => 3,
+        match (self.user, &self.pairs, self.day) {
+            (None, _, _) => 1,
+            (Some(_), None, _) => 2,
+            (Some(_), Some(_), None) => 3,
+            (Some(_), Some(_), Some(_)) => 4,
         }
+    }
+
+    /// The day that views are asked of.
+    pub fn nights_day(&self) -> u16 {
+        self.day.unwrap_or(0)
     }
 
     /// The list of pairs, empty where the version has none.
@@ -289,14 +238,40 @@ impl File {
         }
     }
 
-    /// Puts in a grant, instead of the one for its pair if there is one.
+    /// Puts in a grant for the night's day, instead of the one for its pair in force
+    /// that day if there is one; else for the days around it that its pair leaves free.
     pub fn put(&mut self, grant: Grant) {
-        let same =
-            |old: &&mut Grant| old.relation == grant.relation && old.subject == grant.subject;
-        match self.grants.iter_mut().find(same) {
-            Some(old) => *old = grant,
-            None => self.grants.push(grant),
+        let (day, mut free) = (self.nights_day(), grant.days);
+        for old in self.grants.iter_mut().filter(|old| old.same_pair(&grant)) {
+            if old.days.has(day) {
+                *old = Grant { days: old.days, ..grant };
+                return;
+            }
+            free = free.beside(&old.days, day);
         }
+        self.add(Grant { days: free, ..grant });
+    }
+
+    /// Where the file is full, there are more grants than pairs have one in force: one
+    /// out of force makes way.
+    fn add(&mut self, grant: Grant) {
+        if self.grants.len() < MOST_GRANTS {
+            return self.grants.push(grant);
+        }
+        let day = self.nights_day();
+        let idle = self.grants.iter_mut().find(|old| !old.days.has(day));
+        *idle.expect("the new grant's pair has none in force") = grant;
+    }
+
+    /// The grants of each pair in the file's order: a relation's pairs side by side, any's
+    /// last of them.
+    pub fn grants_of_pairs(&self) -> Vec<Vec<&Grant>> {
+        let mut of_pair = vec![Vec::new(); self.relations.len() * (self.subjects + 1)];
+        for grant in &self.grants {
+            let to = grant.subject.unwrap_or(self.subjects);
+            of_pair[grant.relation * (self.subjects + 1) + to].push(grant);
+        }
+        of_pair
     }
 
     pub fn root(&self) -> usize {
@@ -312,6 +287,7 @@ impl File {
         out.extend(self.allowed.to_be_bytes());
         out.extend(self.user.map(|user| user as u8));
         out.extend(self.pairs.as_ref().map(|pairs| pairs.len() as u8));
+        out.extend(self.day.map_or(vec![], |day| day.to_be_bytes().to_vec()));
         for relation in &self.relations {
             out.push(relation.owner as u8);
             out.extend(relation.set.bits().to_be_bytes());
@@ -321,6 +297,11 @@ impl File {
             out.push(grant.subject.map_or(ANY, |subject| subject as u8));
             out.extend(grant.clear.bits().to_be_bytes());
             out.extend(grant.sealed.bits().to_be_bytes());
+            if self.day.is_some() {
+                out.extend(
+                    [grant.days.first, grant.days.last].map(u16::to_be_bytes).as_flattened(),
+                );
+            }
         }
         for node in &self.nodes {
             out.extend(node.write());

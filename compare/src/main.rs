@@ -1,14 +1,24 @@
 //! Compares the library with a planner written apart from it, case by case.
 
+mod always;
 mod answers;
+mod broken;
+mod calendar;
 mod choice;
 mod coverage;
+mod cycles;
 mod damage;
+mod daycount;
+mod dayfaults;
+mod days;
+mod dayslips;
 mod every;
 mod examine;
 mod failing;
 mod file;
 mod generate;
+mod grants;
+mod layout;
 #[cfg(feature = "library")]
 mod library;
 mod longest;

@@ -1,11 +1,12 @@
 //! The sample night in all versions: its text and its figures as the rules print
 //! them.
 
-use crate::file::{UNUSED, USER_AT};
+use crate::file::UNUSED;
+use crate::layout::USER_AT;
 use crate::planner::study;
 use crate::reading::refuse;
 use crate::text;
-use crate::values::{Node, Values};
+use crate::values::{Grant, Node, Values};
 use crate::why::{Question, verdicts};
 use crate::writer;
 
@@ -18,6 +19,11 @@ const OTHER_USERS: [(u8, usize); 5] = [(0, 2), (1, 0), (3, 0), (4, 0), (5, 0)];
 const NOBODY: u8 = 6;
 /// The node that is a join.
 const JOIN: usize = 3;
+/// A night's day; the places of both owners' grants of their own relations, and of 1's
+/// grant of the first, for which any's would show it less.
+const DAY: u16 = 100;
+const OF_OWNERS: [usize; 2] = [0, 8];
+const OF_1: usize = 1;
 
 const TEXT: &str = "\
 total 14 steps 76
@@ -81,6 +87,7 @@ pub fn check_2(bytes: &[u8]) -> Result<(), String> {
     other[USER_AT] = NOBODY;
     expect(&format!("user {NOBODY}"), &other, "refused 4 place 0\n")?;
     check_3(bytes)?;
+    check_4(bytes)?;
     figures(bytes)
 }
 
@@ -110,6 +117,50 @@ fn check_3(bytes: &[u8]) -> Result<(), String> {
     expect("half a pair needed", &with(half, 3), "refused 10 place 3\n")?;
     let past = Node { first: 1, ..join };
     expect("a pair past the list", &with(past, 3), "refused 8 place 3\n")
+}
+
+/// The night of version 2 in version 4, every grant in force on all days, or on the
+/// night's alone; and one of them on other days.
+fn check_4(bytes: &[u8]) -> Result<(), String> {
+    let text = TEXT.replace(WITHOUT_USER, WITH_USER);
+    let mut values = Values::of(bytes).map_err(|refusal| format!("{refusal:?}"))?;
+    (values.header.version, values.header.day) = (4, DAY);
+    let always = values.encode();
+    expect("version 4", &always, &text)?;
+    expect("version 4, cut", &always[..18], "refused 3 place 0\n")?;
+    written_again(&always)?;
+    figures(&always)?;
+    values.grants.iter_mut().for_each(|grant| (grant.first, grant.last) = (DAY, DAY));
+    expect("version 4, the night alone", &values.encode(), &text)?;
+    let with = |place: usize, days: (u16, u16)| {
+        let mut other = values.clone();
+        (other.grants[place].first, other.grants[place].last) = days;
+        other.encode()
+    };
+    for (relation, grant) in OF_OWNERS.into_iter().enumerate() {
+        let refused = format!("refused 7 place {relation}\n");
+        expect("the owner's the day after", &with(grant, (DAY + 1, u16::MAX)), &refused)?;
+        expect("the owner's the day before", &with(grant, (0, DAY - 1)), &refused)?;
+        let refused = format!("refused 6 place {grant}\n");
+        expect("first day after last", &with(grant, (DAY + 1, DAY)), &refused)?;
+    }
+    // By any's, 1 does not see S and may not run the select: six steps fewer.
+    let uncovered = text.replace("steps 76", "steps 70");
+    expect("1 sees by any's", &with(OF_1, (0, DAY - 1)), &uncovered)?;
+    twice(values)
+}
+
+/// The first grant once more at the end, on days after the night's or on this one.
+fn twice(mut values: Values) -> Result<(), String> {
+    let text = TEXT.replace(WITHOUT_USER, WITH_USER);
+    let again = values.grants[0];
+    let place = values.grants.len();
+    values.header.grants += 1;
+    values.grants.push(Grant { first: DAY + 1, last: u16::MAX, ..again });
+    expect("a pair twice, side by side", &values.encode(), &text)?;
+    values.grants[place].first = DAY;
+    let refused = format!("refused 6 place {place}\n");
+    expect("a pair twice, on one day", &values.encode(), &refused)
 }
 
 /// The night's values give its bytes, if there is room for them all.

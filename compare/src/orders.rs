@@ -1,17 +1,19 @@
 //! Orders for the writer: the values of a case's file, left as they are, changed
 //! within the rules, or made wrong in one way or in two.
 
-use crate::file::{LONGEST, MOST_LINK_PRICE, MOST_STEP_PRICE, VERSIONS};
+use crate::cycles;
+use crate::file::{MOST_LINK_PRICE, MOST_STEP_PRICE};
+use crate::layout::{LONGEST, VERSIONS};
 use crate::rng::Rng;
 use crate::users;
 use crate::valid::{self, Size};
 use crate::valuefaults::fault;
-use crate::values::{Header, LISTS, Node, PAIRS, Values, with_pairs};
+use crate::values::{Header, LISTS, Node, PAIRS, Values, with_days, with_pairs};
 use crate::writer::Order;
 
 /// Versions that there are not, some of which would be if only one of the two
 /// bytes were read, or the two in the other order.
-pub const UNKNOWN_VERSIONS: [u16; 9] = [0, 4, 256, 257, 258, 259, 512, 768, 65_535];
+pub const UNKNOWN_VERSIONS: [u16; 11] = [0, 5, 256, 257, 258, 259, 260, 512, 768, 1_024, 65_535];
 /// From so many on a list has far too many.
 pub const FAR: usize = 100;
 
@@ -19,11 +21,12 @@ type Change = fn(&mut Rng, &mut Values);
 
 /// Of a hundred orders, so many with each change; in the others two of those that
 /// are wrong compete.
-const CHANGES: [(usize, Change); 10] = [
-    (44, |_, _| {}),
+const CHANGES: [(usize, Change); 11] = [
+    (41, |_, _| {}),
     (8, other_user),
     (6, other_version),
     (8, other_numbers),
+    (3, other_days),
     (3, unknown_version),
     (9, miscount),
     (3, evened),
@@ -62,6 +65,18 @@ fn unwritten(rng: &mut Rng, values: &mut Values) {
         for node in &mut values.nodes {
             (node.first, node.count) = rng.pick(&[(0, 0), (0, 1), (1, 0), (255, 255), (any, any)]);
         }
+    }
+    if !with_days(header.version) {
+        unwritten_days(rng, values);
+    }
+}
+
+fn unwritten_days(rng: &mut Rng, values: &mut Values) {
+    let [any, other] = [rng.next() as u16, rng.next() as u16];
+    values.header.day = rng.pick(&[0, 1, u16::MAX, any]);
+    for grant in &mut values.grants {
+        (grant.first, grant.last) =
+            rng.pick(&[(0, 0), (0, u16::MAX), (1, 0), (u16::MAX, 0), (any, any), (any, other)]);
     }
 }
 
@@ -115,6 +130,52 @@ fn other_version(rng: &mut Rng, values: &mut Values) {
         (true, false) => without_list(rng, values),
         _ => {}
     }
+    match (with_days(before), with_days(after)) {
+        (false, true) => with_dates(rng, values),
+        (true, false) => without_dates(rng, values),
+        _ => {}
+    }
+}
+
+/// A night's day, and every grant in force that day.
+fn with_dates(rng: &mut Rng, values: &mut Values) {
+    let day = cycles::night(rng);
+    values.header.day = day;
+    for grant in &mut values.grants {
+        (grant.first, grant.last) =
+            rng.pick(&[(0, u16::MAX), (0, day), (day, u16::MAX), (day, day)]);
+    }
+}
+
+/// No days any more: mostly what is out of force goes, or else a pair may stand twice.
+fn without_dates(rng: &mut Rng, values: &mut Values) {
+    let day = values.header.day;
+    if rng.percent(70) {
+        values.grants.retain(|grant| (grant.first..=grant.last).contains(&day));
+        values.header.grants = values.grants.len() as u16;
+    }
+    unwritten_days(rng, values);
+}
+
+/// Another night's day, or other days for one grant; where the version has none they
+/// mean nothing.
+fn other_days(rng: &mut Rng, values: &mut Values) {
+    let any = rng.next() as u16;
+    if values.grants.is_empty() || rng.percent(30) {
+        values.header.day = rng.pick(&[0, u16::MAX, any]);
+        return;
+    }
+    let day = values.header.day;
+    let one = rng.below(values.grants.len());
+    let grant = &mut values.grants[one];
+    (grant.first, grant.last) = match rng.below(6) {
+        0 => (grant.first, day.max(grant.first)),
+        1 => (day.min(grant.last), grant.last),
+        2 => (grant.first, grant.last.saturating_add(1)),
+        3 => (grant.first.saturating_sub(1), grant.last),
+        4 => (day, day),
+        _ => (0, u16::MAX),
+    };
 }
 
 /// A list of pairs that no node names.
@@ -218,41 +279,51 @@ fn miscount(rng: &mut Rng, values: &mut Values) {
     }
 }
 
-/// Lists miscounted so that the file would have the right length all the same, and
-/// where it is prices or pairs that move, the right bytes.
+/// Takes bytes from one list and gives them to another: so many records fewer of one
+/// sort, and so many more of the other. Whether there are so many.
+fn moved(values: &mut Values, fewer: (usize, usize), more: (usize, usize)) -> bool {
+    let lengths = values.lengths();
+    let enough = lengths[fewer.0] > fewer.1;
+    if enough {
+        resize(values, fewer.0, lengths[fewer.0] - fewer.1);
+        resize(values, more.0, lengths[more.0] + more.1);
+    }
+    enough
+}
+
+/// Lists miscounted so that the file would have the right length all the same: a grant
+/// is as long as two relations or, with days, as eleven pairs, a node as seven prices
+/// or, naming pairs, as fifteen of them.
 fn evened(rng: &mut Rng, values: &mut Values) {
-    let [relations, grants, nodes, pairs, steps, links] = values.lengths();
-    let listed = with_pairs(values.header.version);
-    match rng.below(10) {
-        0 if relations > 2 => {
-            resize(values, 0, relations - 2);
-            resize(values, 1, grants + 1);
-        }
-        1 if grants > 0 => {
-            resize(values, 0, relations + 2);
-            resize(values, 1, grants - 1);
-        }
-        2 if nodes > 1 && !listed => {
-            resize(values, 2, nodes - 1);
-            resize(values, 4, steps + 7);
-        }
-        2 if nodes > 1 => {
-            resize(values, 2, nodes - 1);
-            resize(values, PAIRS, pairs + 30);
-        }
-        3 if links >= 7 && !listed => {
-            resize(values, 2, nodes + 1);
-            resize(values, 5, links - 7);
-        }
-        4 | 5 if links > 0 => {
+    let (listed, dated) = (with_pairs(values.header.version), with_days(values.header.version));
+    let even = match rng.below(10) {
+        0 if !dated => moved(values, (0, 2), (1, 1)),
+        0 => moved(values, (PAIRS, 22), (1, 1)),
+        1 if !dated => moved(values, (1, 1), (0, 2)),
+        1 => moved(values, (1, 1), (PAIRS, 22)),
+        2 if !listed => moved(values, (2, 1), (4, 7)),
+        2 => moved(values, (2, 1), (PAIRS, 30)),
+        3 if !listed => moved(values, (5, 7), (2, 1)),
+        _ => false,
+    };
+    if !even {
+        evened_bytes(rng, values);
+    }
+}
+
+/// Likewise, and the bytes are right too: what moves is prices or pairs.
+fn evened_bytes(rng: &mut Rng, values: &mut Values) {
+    let [_, _, _, pairs, steps, links] = values.lengths();
+    match rng.below(6) {
+        0 | 1 if links > 0 => {
             values.step_prices.push(values.link_prices[0]);
             values.link_prices.remove(0);
         }
-        6 if pairs >= 4 => {
+        2 if pairs >= 4 => {
             let last = values.pairs.split_off(pairs - 4);
             values.step_prices.insert(0, last.iter().fold(0, |sum, &b| sum << 8 | u32::from(b)));
         }
-        7 if steps > 0 => values.pairs.extend(values.step_prices.remove(0).to_be_bytes()),
+        3 if steps > 0 => values.pairs.extend(values.step_prices.remove(0).to_be_bytes()),
         _ => values.link_prices.splice(..0, values.step_prices.pop()).for_each(drop),
     }
 }

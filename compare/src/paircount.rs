@@ -2,8 +2,9 @@
 //! and candidates, and each fault alone.
 
 use crate::coverage::{Line, count, line};
-use crate::file::{File, LONGEST, MOST_JOINED, MOST_PAIRS, VERSIONS};
-use crate::pairfaults::{FAULTS, Known};
+use crate::file::{File, MOST_JOINED, MOST_PAIRS};
+use crate::layout::LONGEST;
+use crate::pairfaults::FAULTS;
 use crate::pairslips::{self, joins, needs_some, unnamed};
 use crate::planner::{Answer, Study};
 use crate::starts::MANY_NODES;
@@ -11,12 +12,12 @@ use crate::views::View;
 use crate::why::{Question, Reason, Table, Verdict};
 
 /// Floors for answered joins on 1 to 8 pairs.
-const LEAST_OF_COUNT: [usize; MOST_JOINED] = [2_200, 1_550, 800, 550, 440, 380, 340, 340];
+const LEAST_OF_COUNT: [usize; MOST_JOINED] = [3_300, 2_000, 1_100, 800, 620, 530, 470, 480];
 /// The floor for each fault.
 const LEAST_OF_FAULT: usize = 160;
 /// Floors for the slips, in the order of their names.
 const LEAST_SHOWN: [usize; pairslips::NAMES.len()] =
-    [640, 550, 240, 1_800, 4_700, 560, 9_200, 9_550, 250, 110, 110, 110];
+    [810, 690, 290, 2_300, 6_350, 720, 12_000, 14_500, 250, 110, 110, 110];
 
 /// What is counted of the lists in readable files.
 #[derive(Default)]
@@ -107,17 +108,17 @@ impl Lists {
         self.empty += count(file.list().is_empty());
         self.full += count(file.list().len() == MOST_PAIRS);
         self.out_of_order += count(!firsts.is_sorted());
-        self.longest += count(file.layout().end == LONGEST[VERSIONS - 1]);
+        self.longest += count(file.layout().end == LONGEST[2]);
     }
 
     fn lines(&self) -> [Line; 6] {
         [
-            line("lists with a pair that no node names", self.unnamed, 10_500),
-            line("lists with such a pair, a byte of 64 or more", self.unnamed_beyond, 9_500),
-            line("lists without a pair", self.empty, 4_400),
-            line("lists of 255 pairs", self.full, 940),
-            line("lists not in the nodes' order", self.out_of_order, 420),
-            line("readable files of 12,607 bytes", self.longest, 50),
+            line("lists with a pair that no node names", self.unnamed, 16_000),
+            line("lists with such a pair, a byte of 64 or more", self.unnamed_beyond, 14_500),
+            line("lists without a pair", self.empty, 7_950),
+            line("lists of 255 pairs", self.full, 1_450),
+            line("lists not in the nodes' order", self.out_of_order, 630),
+            line("readable files of 12,607 bytes", self.longest, 40),
         ]
     }
 }
@@ -136,15 +137,15 @@ impl Joins {
 
     fn lines(&self) -> [Line; 5] {
         [
-            line("joins on pairs that need none", self.needs_none, 8_100),
-            line("joins on pairs that need some", self.needs_some, 620),
-            line("joins on pairs that need all", self.needs_all, 2_950),
+            line("joins on pairs that need none", self.needs_none, 10_500),
+            line("joins on pairs that need some", self.needs_some, 820),
+            line("joins on pairs that need all", self.needs_all, 4_050),
             line(
                 "candidates that see one pair clear and another sealed",
                 self.mixed_candidate,
-                740,
+                950,
             ),
-            line("subjects out for a pair seen half clear and half sealed", self.halved, 2_800),
+            line("subjects out for a pair seen half clear and half sealed", self.halved, 3_900),
         ]
     }
 }
@@ -170,15 +171,15 @@ impl Answered {
             .map(|(i, (&n, least))| line(&format!("joins answered on {} pairs", i + 1), n, least))
             .collect();
         lines.extend([
-            line("joins answered, two pairs share an attribute", self.shared, 1_850),
-            line("joins answered, a pair is repeated", self.repeated, 2_050),
-            line("joins answered, one pair clear and another sealed", self.mixed, 360),
+            line("joins answered, two pairs share an attribute", self.shared, 2_600),
+            line("joins answered, a pair is repeated", self.repeated, 3_000),
+            line("joins answered, one pair clear and another sealed", self.mixed, 500),
             line(
                 "joins answered, two pairs that share an attribute under one key",
                 self.shared_key,
-                1_850,
+                2_600,
             ),
-            line("joins answered in files of 40 nodes or more", self.broad, 1_100),
+            line("joins answered in files of 40 nodes or more", self.broad, 1_700),
         ]);
         lines
     }
@@ -187,19 +188,19 @@ impl Answered {
 impl Tiny {
     fn lines(&self) -> [Line; 4] {
         [
-            line("tiny files so tried, with a join on pairs", self.files, 2_450),
-            line("tiny files so tried, with two pairs apart", self.apart, 800),
-            line("tiny files so tried, one pair clear and another sealed", self.mixed, 35),
-            line("tiny files so tried that would show all pairs tied", self.merged, 60),
+            line("tiny files so tried, with a join on pairs", self.files, 3_050),
+            line("tiny files so tried, with two pairs apart", self.apart, 920),
+            line("tiny files so tried, one pair clear and another sealed", self.mixed, 40),
+            line("tiny files so tried that would show all pairs tied", self.merged, 75),
         ]
     }
 }
 
 impl Pairs {
-    pub fn fault(&mut self, known: &Known) {
-        self.faults[known.fault] += 1;
+    pub fn fault(&mut self, fault: usize) {
+        self.faults[fault] += 1;
         for (counted, name) in self.slips.iter_mut().zip(pairslips::NAMES) {
-            *counted += count(FAULTS[known.fault].slip == Some(name));
+            *counted += count(FAULTS[fault].slip == Some(name));
         }
     }
 
@@ -252,8 +253,8 @@ impl Pairs {
         lines.extend(self.joins.lines());
         lines.extend(self.answered.lines());
         lines.extend(self.tiny.lines());
-        lines.push(line("joins on one pair that gave the same as kind 5", self.twins, 8_300));
-        lines.push(line("joins on one pair repeated that did", self.repeated_twins, 690));
+        lines.push(line("joins on one pair that gave the same as kind 5", self.twins, 11_500));
+        lines.push(line("joins on one pair repeated that did", self.repeated_twins, 1_050));
         lines.extend(FAULTS.iter().zip(self.faults).map(|(fault, n)| {
             line(&format!("refused with {}: {}", fault.number, fault.name), n, LEAST_OF_FAULT)
         }));

@@ -1,20 +1,15 @@
 //! Files made to break a rule about pairs and mostly no other, each with the refusal
 //! that it must bring: the reader is held against it.
 
-use crate::file::{File, MOST_JOINED, MOST_PAIRS, NAMED_AT, Work};
+use crate::file::{File, MOST_JOINED, MOST_PAIRS, Work};
+use crate::generate::{Known, Made};
+use crate::layout::NAMED_AT;
 use crate::pairslips::{BEFORE, CUT_SUM, EXCHANGED, HALF, PAST};
 use crate::reading::Refusal;
 use crate::rng::Rng;
 use crate::sets::Flags;
 use crate::users;
 use crate::valid::{self, Size};
-
-/// A fault that a file has: its place among those below, and what it must bring.
-#[derive(Clone, Debug)]
-pub struct Known {
-    pub fault: usize,
-    pub refusal: Refusal,
-}
 
 /// Puts a fault into a valid file over one of its joins on pairs: the bytes, and the
 /// node at fault. `None` where the file has no place for it.
@@ -75,8 +70,8 @@ pub fn file(rng: &mut Rng, fault: usize) -> (Vec<u8>, Known) {
         }
         let node = rng.pick(&joins);
         if let Some((bytes, place)) = make(rng, file, node) {
-            let refusal = Refusal { number, place: place as u64 };
-            return (bytes, Known { fault, refusal });
+            let verdict = Some(Refusal { number, place: place as u64 });
+            return (bytes, Known { made: Made::Pair(fault), verdict });
         }
     }
 }
@@ -98,7 +93,7 @@ fn pairs_of(file: &mut File, node: usize) -> Vec<(usize, usize)> {
 }
 
 fn list(file: &mut File) -> &mut Vec<[u8; 2]> {
-    file.pairs.as_mut().expect("a file of version 3")
+    file.pairs.as_mut().expect("a file with pairs")
 }
 
 fn bytes_of(&(x, y): &(usize, usize)) -> [u8; 2] {

@@ -1,6 +1,7 @@
 //! Views that tell one pair of a join from another. As grants are drawn, hardly a
 //! subject sees one pair clear, another sealed, and neither half and half.
 
+use crate::days::Days;
 use crate::file::{File, Grant, Work};
 use crate::rng::Rng;
 use crate::sets::{Flags, Ties};
@@ -58,7 +59,7 @@ fn grant(file: &mut File, subject: usize, clear: &Flags) {
         let set = file.relations[relation].set;
         if file.relations[relation].owner != subject {
             let (clear, sealed) = (set.and(clear), set.minus(clear));
-            file.put(Grant { relation, subject: Some(subject), clear, sealed });
+            file.put(Grant { relation, subject: Some(subject), clear, sealed, days: Days::ALL });
         }
     }
 }

@@ -4,6 +4,7 @@
 use std::thread;
 use std::time::{Duration, Instant};
 
+use crate::always;
 use crate::answers;
 use crate::coverage::{Coverage, Line};
 use crate::examine;
@@ -99,17 +100,34 @@ impl<'a> Part<'a> {
             .map_err(|text| format!("{}\n{text}", label(self.options, index, &case)))
     }
 
+    /// The library's record of a case, if one is linked, is the expected one.
+    fn record(&mut self, expected: &Record, case: &Case) -> Result<(), String> {
+        let Some(linked) = self.linked else { return Ok(()) };
+        let start = Instant::now();
+        let given = (linked.record)(case);
+        self.in_library += start.elapsed();
+        match expected.difference(&given, &case.questions) {
+            Some(text) => Err(text),
+            None => Ok(()),
+        }
+    }
+
     fn compare(&mut self, index: usize, send: bool, case: &Case) -> Result<(), String> {
         let study = planner::study(&case.file);
         let verdicts = why::verdicts(&study, &case.questions);
         examine::examine(case, &study, &verdicts, &mut self.coverage)?;
-        if let Some(linked) = self.linked {
+        let twin = always::dated(self.options.seed, index, case);
+        let of_twin = |twin: &Case, text| format!("twin {}\n{text}", hex(&twin.file));
+        if let Some(twin) = &twin {
+            always::hold(case, twin, &study, &verdicts, &mut self.coverage)
+                .map_err(|text| of_twin(twin, text))?;
+        }
+        if self.linked.is_some() {
             let expected = record::expected(&study, &verdicts, case);
-            let start = Instant::now();
-            let given = (linked.record)(case);
-            self.in_library += start.elapsed();
-            if let Some(text) = expected.difference(&given, &case.questions) {
-                return Err(text);
+            self.record(&expected, case)?;
+            if let Some(twin) = &twin {
+                self.record(&always::expected(case, expected, twin), twin)
+                    .map_err(|text| of_twin(twin, text))?;
             }
         }
         self.writer.case(self.options.seed, index, case, &study, &mut self.coverage)?;

@@ -5,7 +5,7 @@ use crate::choice::{self, Options};
 use crate::file::{File, Node, Work};
 use crate::reading::{Refusal, read, refuse};
 use crate::sets::{Flags, Ties};
-use crate::views::{Profile, View, may_have, of_subject};
+use crate::views::{self, Profile, View, may_have};
 
 /// A readable file with all that follows from it before any choice.
 pub struct Study {
@@ -50,7 +50,7 @@ pub struct Rooms {
 
 pub fn study(bytes: &[u8]) -> Result<Study, Refusal> {
     let file = read(bytes)?;
-    let views: Vec<View> = (0..file.subjects).map(|subject| of_subject(&file, subject)).collect();
+    let views = views::on(&file, file.nights_day());
     let tables = tables(&file, |_| {});
     let candidates = candidates(&file, &views, &tables);
     let (plan, handed_sealed) = plan(&file);

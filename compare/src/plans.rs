@@ -1,7 +1,7 @@
 //! The program `plan`: started once for each of some cases, its whole text
 //! compared.
 
-use crate::file::VERSIONS;
+use crate::layout::VERSIONS;
 use crate::planner::{Study, study};
 use crate::program::printed;
 use crate::reading::Refusal;
@@ -10,8 +10,8 @@ use crate::text;
 
 /// So many answered files of each version, so many that have many nodes, and so
 /// many of each refusal.
-const OF_ANSWERED: usize = 28;
-const OF_MANY: usize = 8;
+const OF_ANSWERED: usize = 21;
+const OF_MANY: usize = 6;
 const OF_REFUSAL: usize = 16;
 const REFUSALS: [u64; 14] = [1, 2, 3, 4, 5, 6, 7, 8, 9, 10, 11, 12, 13, 17];
 

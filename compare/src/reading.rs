@@ -1,6 +1,8 @@
 //! Reading a plan file: refusals 1 to 11, in the order of the rules.
 
+use crate::days::Days;
 use crate::file::*;
+use crate::layout::*;
 use crate::sets::{Flags, WIDTH};
 use crate::views;
 
@@ -29,6 +31,7 @@ pub struct Header {
     allowed: u32,
     user: Option<usize>,
     with_pairs: bool,
+    day: Option<u16>,
 }
 
 /// The version as it stands, if the mark stands before it.
@@ -59,10 +62,11 @@ fn header(bytes: &[u8]) -> Result<Header, Refusal> {
         && (1..=16).contains(&counts.relations)
         && (1..=64).contains(&attributes)
         && (1..=64).contains(&counts.nodes)
-        && counts.grants <= 272
+        && counts.grants <= MOST_GRANTS
         && user.is_none_or(|user| user < counts.subjects);
     let allowed = number(bytes, 11, 4) as u32;
-    let header = Header { counts, attributes, allowed, user, with_pairs: version >= 3 };
+    let day = (version >= 4).then(|| number(bytes, DAY_AT, 2) as u16);
+    let header = Header { counts, attributes, allowed, user, with_pairs: version >= 3, day };
     if within { Ok(header) } else { refuse(4, 0) }
 }
 
@@ -86,27 +90,40 @@ fn relations(bytes: &[u8], at: usize, header: &Header) -> Result<Vec<Relation>, 
     if free.is_empty() { Ok(out) } else { refuse(5, counts.relations) }
 }
 
+/// From the bytes of one record; one without days is in force on all.
+fn grant(bytes: &[u8]) -> Grant {
+    let days = match bytes[DAYS_AT..] {
+        [] => Days::ALL,
+        _ => {
+            let [first, last] = [DAYS_AT, DAYS_AT + 2].map(|at| number(bytes, at, 2) as u16);
+            Days { first, last }
+        }
+    };
+    Grant {
+        relation: bytes[0].into(),
+        subject: (bytes[1] != ANY).then(|| bytes[1].into()),
+        clear: set_at(bytes, 2),
+        sealed: set_at(bytes, 10),
+        days,
+    }
+}
+
 fn grants(
     bytes: &[u8],
-    at: usize,
-    counts: &Counts,
+    layout: &Layout,
+    subjects: usize,
     relations: &[Relation],
 ) -> Result<Vec<Grant>, Refusal> {
     let mut out: Vec<Grant> = Vec::new();
-    for index in 0..counts.grants {
-        let at = at + GRANT * index;
-        let grant = Grant {
-            relation: bytes[at].into(),
-            subject: (bytes[at + 1] != ANY).then(|| bytes[at + 1].into()),
-            clear: set_at(bytes, at + 2),
-            sealed: set_at(bytes, at + 10),
-        };
-        let known = grant.relation < counts.relations
-            && grant.subject.is_none_or(|subject| subject < counts.subjects);
-        let seen = |old: &Grant| old.relation == grant.relation && old.subject == grant.subject;
+    for (index, record) in bytes[layout.grants..layout.nodes].chunks(layout.grant).enumerate() {
+        let grant = grant(record);
+        let known = grant.relation < relations.len()
+            && grant.subject.is_none_or(|subject| subject < subjects);
+        let seen = |old: &Grant| old.same_pair(&grant) && old.days.meet(&grant.days);
         if !known
             || grant.clear.meets(&grant.sealed)
             || !grant.clear.or(&grant.sealed).within(&relations[grant.relation].set)
+            || grant.days.first > grant.days.last
             || out.iter().any(seen)
         {
             return refuse(6, index);
@@ -116,9 +133,9 @@ fn grants(
     Ok(out)
 }
 
-fn owners_see_all(relations: &[Relation], grants: &[Grant]) -> Result<(), Refusal> {
+fn owners_see_all(relations: &[Relation], grants: &[Grant], day: u16) -> Result<(), Refusal> {
     for (index, relation) in relations.iter().enumerate() {
-        let view = views::of_relation(grants, index, relation.owner);
+        let view = views::of_relation(grants, day, index, relation.owner);
         if view.clear != relation.set {
             return refuse(7, index);
         }
@@ -345,8 +362,8 @@ pub fn read(bytes: &[u8]) -> Result<File, Refusal> {
     let counts = &header.counts;
     let subjects = counts.subjects;
     let relations = relations(bytes, layout.relations, &header)?;
-    let grants = grants(bytes, layout.grants, counts, &relations)?;
-    owners_see_all(&relations, &grants)?;
+    let grants = grants(bytes, &layout, subjects, &relations)?;
+    owners_see_all(&relations, &grants, header.day.unwrap_or(0))?;
     let list = bytes[layout.pairs..layout.step_prices].as_chunks().0;
     let nodes = nodes(bytes, &layout, list, &relations)?;
     // Where 0 is fixed, the most that a price may be is 0.
@@ -362,6 +379,7 @@ pub fn read(bytes: &[u8]) -> Result<File, Refusal> {
     Ok(File {
         user: header.user,
         pairs: header.with_pairs.then(|| list.to_vec()),
+        day: header.day,
         subjects,
         attributes: header.attributes,
         allowed: header.allowed,

@@ -2,8 +2,8 @@
 //! standard input, at times the room that it lends as a word; all that it prints
 //! is compared.
 
-use crate::file::VERSIONS;
 use crate::generate::Case;
+use crate::layout::VERSIONS;
 use crate::planner::Study;
 use crate::program::printed_bytes;
 use crate::reading::Refusal;
@@ -14,9 +14,9 @@ use crate::writer::verdict;
 
 /// So many files of each version without a word, so many that have many nodes, so
 /// many with each room, and so many of each refusal, also where 15 would be next.
-const OF_PLAIN: usize = 11;
-const OF_MANY: usize = 4;
-const OF_ROOM: usize = 4;
+const OF_PLAIN: usize = 8;
+const OF_MANY: usize = 3;
+const OF_ROOM: usize = 3;
 const OF_REFUSAL: usize = 6;
 const OF_REFUSAL_SHORT: usize = 4;
 /// The rooms that are lent.

@@ -1,6 +1,7 @@
 //! Large files whose every step has a candidate: as they are drawn, nearly all
 //! would be refused for a step that has none.
 
+use crate::days::Days;
 use crate::file::{File, Grant, Work};
 use crate::planner::study;
 use crate::rng::Rng;
@@ -33,7 +34,8 @@ fn relations_below(file: &File, node: usize) -> Vec<usize> {
 
 fn widen(file: &mut File, relation: usize, subject: usize, in_clear: bool) {
     let all = file.relations[relation].set;
-    let held = views::of_relation(&file.grants, relation, subject);
+    let held = views::of_relation(&file.grants, file.nights_day(), relation, subject);
     let clear = if in_clear { all } else { held.clear };
-    file.put(Grant { relation, subject: Some(subject), clear, sealed: all.minus(&clear) });
+    let (subject, sealed) = (Some(subject), all.minus(&clear));
+    file.put(Grant { relation, subject, clear, sealed, days: Days::ALL });
 }

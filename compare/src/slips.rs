@@ -3,7 +3,7 @@
 //! files are counted.
 
 use crate::failing::Failing;
-use crate::file::File;
+use crate::file::{File, Grant};
 use crate::planner::{Study, candidates, tables};
 use crate::sets::{Flags, Ties};
 use crate::views::{Profile, View};
@@ -53,9 +53,11 @@ fn shown_by_candidates(study: &Study) -> [bool; OF_CANDIDATES] {
 }
 
 fn joined(file: &File) -> Vec<View> {
+    let in_force = |grant: &Grant| grant.days.has(file.nights_day());
     let of_subject = |subject: usize| {
         let mut view = View { clear: Flags::NONE, sealed: Flags::NONE };
-        for grant in file.grants.iter().filter(|grant| grant.subject.is_none_or(|s| s == subject)) {
+        let fits = |grant: &&Grant| grant.subject.is_none_or(|s| s == subject) && in_force(grant);
+        for grant in file.grants.iter().filter(fits) {
             view.clear = view.clear.or(&grant.clear);
             view.sealed = view.sealed.or(&grant.sealed);
         }

@@ -1,8 +1,8 @@
 //! A second writer, which plays the library where none is linked: every field is
 //! put at its place in the file, and all refusals but two are the reader's.
 
-use crate::file::{
-    Counts, GRANT, Layout, NAMED_AT, PAIRS_AT, RELATION, USER_AT, VERSIONS, form_of,
+use crate::layout::{
+    Counts, DAY_AT, DAYS_AT, Layout, NAMED_AT, PAIRS_AT, RELATION, USER_AT, VERSIONS, form_of,
 };
 use crate::reading::{Refusal, read, refuse};
 use crate::record::code;
@@ -37,6 +37,9 @@ fn put_header(bytes: &mut [u8], header: &Header) {
     }
     if header.version > 2 {
         bytes[PAIRS_AT] = header.pairs;
+    }
+    if header.version > 3 {
+        put(bytes, DAY_AT, &[(2, 2, header.day.into())]);
     }
 }
 
@@ -76,7 +79,11 @@ fn by_place(values: &Values, layout: &Layout) -> Vec<u8> {
         put(&mut bytes, layout.relations + RELATION * index, &relation(value));
     }
     for (index, value) in values.grants.iter().enumerate() {
-        put(&mut bytes, layout.grants + GRANT * index, &grant(value));
+        put(&mut bytes, layout.grant_at(index), &grant(value));
+        if layout.grant > DAYS_AT {
+            let (first, last) = (value.first.into(), value.last.into());
+            put(&mut bytes, layout.grant_at(index) + DAYS_AT, &[(2, 2, first), (4, 2, last)]);
+        }
     }
     for (index, value) in values.nodes.iter().enumerate() {
         put(&mut bytes, layout.node_at(index), &node(value));

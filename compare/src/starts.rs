@@ -2,7 +2,7 @@
 //! the inputs that all are started on.
 
 use crate::coverage::{Line, line};
-use crate::file::LONGEST;
+use crate::layout::LONGEST;
 use crate::program::{Said, ask};
 use crate::rng::Rng;
 use crate::served::serve;

@@ -1,5 +1,5 @@
-//! A join on one pair is kind 5: each file of version 3 that has one or the other is
-//! made anew with the two exchanged, and everything must come out the same.
+//! A join on one pair is kind 5: each file that has one or the other, from version 3 on,
+//! is made anew with the two exchanged, and everything must come out the same.
 
 use crate::coverage::Coverage;
 use crate::file::{File, MOST_PAIRS, Work};

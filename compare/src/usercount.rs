@@ -3,18 +3,19 @@
 
 use crate::coverage::{LONG_NODES, Line, count, line};
 use crate::damage::OTHER_VERSIONS;
-use crate::file::{USER_AT, VERSIONS, form_of};
 use crate::generate::Case;
+use crate::layout::{USER_AT, VERSIONS, form_of};
 use crate::planner::{Answer, Study};
 use crate::reading::{read, version};
 use crate::userslips;
 
 /// The floor for each version, and for each of those that there are not.
-const LEAST_READABLE: usize = 19_000;
+const LEAST_READABLE: usize = 13_500;
 const LEAST_OF_VERSION: usize = 55;
 /// Floors for the slips, in the order of their names.
-const LEAST_SHOWN: [usize; userslips::NAMES.len()] =
-    [36_500, 23_000, 5_350, 3_150, 2_350, 140, 700, 2_600, 9_350, 4_800, 5_000, 880, 8_900, 5_600];
+const LEAST_SHOWN: [usize; userslips::NAMES.len()] = [
+    40_000, 27_500, 5_700, 3_350, 2_350, 160, 780, 2_850, 10_500, 5_300, 5_800, 1_050, 6_500, 4_100,
+];
 
 /// What is counted of headers that are refused.
 #[derive(Default)]
@@ -94,9 +95,10 @@ impl Headers {
 
     fn lines(&self) -> Vec<Line> {
         let mut lines = vec![
-            line("headers of version 2 with 15 bytes", self.short[0], 130),
+            line("headers of version 2 with 15 bytes", self.short[0], 80),
             line("headers of version 3 with 16 bytes", self.short[1], 360),
-            line("headers so short, a count out of its limits", self.short_with_bad_count, 240),
+            line("headers of version 4 with 18 bytes", self.short[2], 200),
+            line("headers so short, a count out of its limits", self.short_with_bad_count, 330),
             line("headers refused for the user alone", self.user_alone, 540),
             line(
                 "headers so refused, the user's number is that of subjects",
@@ -128,7 +130,7 @@ impl Barred {
 
     fn lines(&self) -> [Line; 6] {
         [
-            line("refusals 17 at a leaf that is not the first", self.later_leaf, 1_400),
+            line("refusals 17 at a leaf that is not the first", self.later_leaf, 1_650),
             line("refusals 17, several such leaves", self.several_leaves, 700),
             line("refusals 17, a step without a candidate too", self.without_candidate, 700),
             line("refusals 17, more steps than allowed too", self.steps_exceed, 990),
@@ -153,13 +155,13 @@ impl Delivered {
 
     fn lines(&self) -> [Line; 7] {
         [
-            line("cheapest answered to a user", self.cheapest, 19_500),
-            line("offers accepted from a user", self.offered, 18_500),
-            line("answers to a user, the user a holder by the delivery alone", self.seen, 14_000),
-            line("answers to a user, the user ran the root", self.user_ran_root, 21_000),
-            line("answers to a user, a step's table delivered all clear", self.all_clear, 4_450),
-            line("answers to a user, a leaf alone", self.leaf_alone, 3_200),
-            line("answers to a user, 20 nodes or more", self.long, 2_650),
+            line("cheapest answered to a user", self.cheapest, 22_000),
+            line("offers accepted from a user", self.offered, 20_500),
+            line("answers to a user, the user a holder by the delivery alone", self.seen, 15_500),
+            line("answers to a user, the user ran the root", self.user_ran_root, 23_500),
+            line("answers to a user, a step's table delivered all clear", self.all_clear, 4_950),
+            line("answers to a user, a leaf alone", self.leaf_alone, 3_700),
+            line("answers to a user, 20 nodes or more", self.long, 3_150),
         ]
     }
 }

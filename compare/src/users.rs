@@ -1,6 +1,7 @@
 //! Who asks: users for valid files, such as may have every leaf's table and such
 //! as may not have one or several.
 
+use crate::days::Days;
 use crate::file::{File, Grant, Work};
 use crate::rng::Rng;
 use crate::sets::Flags;
@@ -71,7 +72,7 @@ fn shown(file: &File, leaf: usize) -> Flags {
 }
 
 fn held(file: &File, leaf: usize, subject: usize) -> View {
-    views::of_relation(&file.grants, relation_of(file, leaf), subject)
+    views::of_relation(&file.grants, file.nights_day(), relation_of(file, leaf), subject)
 }
 
 /// Shows a subject all that the leaves hold, and at times the rest of a relation
@@ -84,7 +85,7 @@ fn show_leaves(rng: &mut Rng, file: &mut File, subject: usize) {
         }
         let wanted = if rng.percent(30) { file.relations[relation].set } else { shown(file, leaf) };
         let (clear, sealed) = (held.clear.or(&wanted), held.sealed.minus(&wanted));
-        file.put(Grant { relation, subject: Some(subject), clear, sealed });
+        file.put(Grant { relation, subject: Some(subject), clear, sealed, days: Days::ALL });
     }
 }
 
@@ -98,5 +99,6 @@ fn hide_leaf(rng: &mut Rng, file: &mut File, subject: usize, leaf: usize) {
         subject: Some(subject),
         clear: held.clear.minus(&hidden),
         sealed: held.sealed.or(&kept),
+        days: Days::ALL,
     });
 }

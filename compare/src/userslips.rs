@@ -1,7 +1,8 @@
 //! Known ways to go wrong over the user. A file for which one of them gives
 //! another refusal, or a key other holders, would show it: such files are counted.
 
-use crate::file::{File, USER_AT, Work};
+use crate::file::{File, Work};
+use crate::layout::USER_AT;
 use crate::planner::{Answer, Study};
 use crate::sets::Flags;
 use crate::views::may_have;

@@ -21,6 +21,11 @@ fn odd_set(rng: &mut Rng, old: u64) -> u64 {
     rng.pick(&[0, u64::MAX, old ^ any, old ^ lowest, old | 1 << 63, old.swap_bytes()])
 }
 
+fn odd_day(rng: &mut Rng, old: u16) -> u16 {
+    let next_to = [old.wrapping_sub(1), old.wrapping_add(1)];
+    rng.pick(&[0, u16::MAX, next_to[0], next_to[1], old ^ 1 << 15, old.swap_bytes()])
+}
+
 fn odd_price(rng: &mut Rng, most: u64) -> u32 {
     rng.pick(&[1, most as u32 + 1, most as u32 + 1, u32::MAX, 1 << 31])
 }
@@ -33,11 +38,13 @@ fn of_relation(rng: &mut Rng, relation: &mut Relation) {
 }
 
 fn of_grant(rng: &mut Rng, grant: &mut Grant) {
-    match rng.below(6) {
+    match rng.below(8) {
         0 => grant.relation = odd_byte(rng, grant.relation),
         1 => grant.subject = odd_byte(rng, grant.subject),
         2 => grant.clear = odd_set(rng, grant.clear),
         3 => grant.sealed = odd_set(rng, grant.sealed),
+        4 => grant.first = odd_day(rng, grant.first),
+        5 => grant.last = odd_day(rng, grant.last),
         // Within its rules, but an owner's view is then not all clear.
         _ => {
             let lowest = grant.clear & grant.clear.wrapping_neg();

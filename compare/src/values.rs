@@ -1,7 +1,8 @@
 //! The values of a plan file as they stand, right or wrong, laid out as C has
 //! them: taken out of a file's bytes, and put into bytes again.
 
-use crate::file::{Counts, Layout, form_of};
+use crate::days::Days;
+use crate::layout::{Counts, Layout, form_of};
 use crate::reading::{self, Refusal};
 
 #[repr(C)]
@@ -16,6 +17,7 @@ pub struct Header {
     pub steps: u32,
     pub user: u8,
     pub pairs: u8,
+    pub day: u16,
 }
 
 #[repr(C)]
@@ -30,6 +32,8 @@ pub struct Relation {
 pub struct Grant {
     pub relation: u8,
     pub subject: u8,
+    pub first: u16,
+    pub last: u16,
     pub clear: u64,
     pub sealed: u64,
 }
@@ -71,12 +75,17 @@ pub const PAIRS: usize = 3;
 
 /// Whether a version, if there is such a one, has a user.
 pub fn with_user(version: u16) -> bool {
-    matches!(version, 2 | 3)
+    matches!(version, 2..=4)
 }
 
 /// Likewise pairs.
 pub fn with_pairs(version: u16) -> bool {
-    version == 3
+    matches!(version, 3 | 4)
+}
+
+/// Likewise days.
+pub fn with_days(version: u16) -> bool {
+    version == 4
 }
 
 /// What is not yet taken of a file.
@@ -93,6 +102,10 @@ impl Rest<'_> {
         self.next::<1>()[0]
     }
 
+    fn half(&mut self) -> u16 {
+        u16::from_be_bytes(self.next())
+    }
+
     fn word(&mut self) -> u32 {
         u32::from_be_bytes(self.next())
     }
@@ -102,13 +115,13 @@ impl Rest<'_> {
     }
 
     fn header(&mut self) -> Header {
-        let version = u16::from_be_bytes(self.next());
+        let version = self.half();
         let [subjects, relations, attributes, nodes] = self.next();
-        let grants = u16::from_be_bytes(self.next());
-        let steps = self.word();
+        let (grants, steps) = (self.half(), self.word());
         let user = if with_user(version) { self.byte() } else { 0 };
         let pairs = if with_pairs(version) { self.byte() } else { 0 };
-        Header { version, subjects, relations, attributes, nodes, grants, steps, user, pairs }
+        let day = if with_days(version) { self.half() } else { 0 };
+        Header { version, subjects, relations, attributes, nodes, grants, steps, user, pairs, day }
     }
 
     fn relation(&mut self) -> Relation {
@@ -117,7 +130,13 @@ impl Rest<'_> {
 
     fn grant(&mut self) -> Grant {
         let [relation, subject] = self.next();
-        Grant { relation, subject, clear: self.set(), sealed: self.set() }
+        let Days { first, last } = Days::ALL;
+        Grant { relation, subject, first, last, clear: self.set(), sealed: self.set() }
+    }
+
+    fn grant_with_days(&mut self) -> Grant {
+        let grant = self.grant();
+        Grant { first: self.half(), last: self.half(), ..grant }
     }
 
     fn node(&mut self) -> Node {
@@ -149,6 +168,9 @@ impl Header {
         }
         if with_pairs(version) {
             out.push(self.pairs);
+        }
+        if with_days(version) {
+            out.extend(self.day.to_be_bytes());
         }
         out
     }
@@ -188,11 +210,12 @@ impl Values {
         let mut rest = Rest(&file[3..]);
         let header = rest.header();
         let [relations, grants, nodes, pairs, steps, links] = header.asks();
+        let grant = if with_days(header.version) { Rest::grant_with_days } else { Rest::grant };
         let node = if with_pairs(header.version) { Rest::node_with_pairs } else { Rest::node };
         Ok(Values {
             header,
             relations: rest.list(relations, Rest::relation),
-            grants: rest.list(grants, Rest::grant),
+            grants: rest.list(grants, grant),
             nodes: rest.list(nodes, node),
             pairs: rest.list(pairs, Rest::byte),
             step_prices: rest.list(steps, Rest::word),
@@ -217,6 +240,11 @@ impl Values {
             meant.header.pairs = 0;
             meant.nodes.iter_mut().for_each(|node| (node.first, node.count) = (0, 0));
         }
+        if !with_days(self.header.version) {
+            meant.header.day = 0;
+            let Days { first, last } = Days::ALL;
+            meant.grants.iter_mut().for_each(|grant| (grant.first, grant.last) = (first, last));
+        }
         meant
     }
 
@@ -227,10 +255,14 @@ impl Values {
             out.push(*owner);
             out.extend(set.to_be_bytes());
         }
-        for Grant { relation, subject, clear, sealed } in &self.grants {
-            out.extend([*relation, *subject]);
-            out.extend(clear.to_be_bytes());
-            out.extend(sealed.to_be_bytes());
+        for grant in &self.grants {
+            out.extend([grant.relation, grant.subject]);
+            out.extend(grant.clear.to_be_bytes());
+            out.extend(grant.sealed.to_be_bytes());
+            if with_days(self.header.version) {
+                out.extend(grant.first.to_be_bytes());
+                out.extend(grant.last.to_be_bytes());
+            }
         }
         for node in &self.nodes {
             out.extend([node.kind, node.left, node.right, node.x, node.y]);

@@ -4,16 +4,18 @@ use crate::file::{File, Grant, Work};
 use crate::sets::{Flags, Ties};
 
 /// P and E of one subject: what it sees in clear and what sealed.
-#[derive(Clone)]
+#[derive(Clone, PartialEq, Debug)]
 pub struct View {
     pub clear: Flags,
     pub sealed: Flags,
 }
 
-/// The own grant, or else the one to any, or else nothing.
-pub fn of_relation(grants: &[Grant], relation: usize, subject: usize) -> View {
+/// The own grant in force that day, or else the one to any, or else nothing.
+pub fn of_relation(grants: &[Grant], day: u16, relation: usize, subject: usize) -> View {
     let find = |to: Option<usize>| {
-        grants.iter().find(|grant| grant.relation == relation && grant.subject == to)
+        let in_force = |grant: &&Grant| grant.days.has(day);
+        let to_pair = |grant: &&Grant| grant.relation == relation && grant.subject == to;
+        grants.iter().filter(in_force).find(to_pair)
     };
     match find(Some(subject)).or_else(|| find(None)) {
         Some(grant) => View { clear: grant.clear, sealed: grant.sealed },
@@ -21,14 +23,19 @@ pub fn of_relation(grants: &[Grant], relation: usize, subject: usize) -> View {
     }
 }
 
-pub fn of_subject(file: &File, subject: usize) -> View {
+fn of_subject(file: &File, day: u16, subject: usize) -> View {
     let mut view = View { clear: Flags::NONE, sealed: Flags::NONE };
     for relation in 0..file.relations.len() {
-        let part = of_relation(&file.grants, relation, subject);
+        let part = of_relation(&file.grants, day, relation, subject);
         view.clear = view.clear.or(&part.clear);
         view.sealed = view.sealed.or(&part.sealed);
     }
     view
+}
+
+/// What each subject sees on a day.
+pub fn on(file: &File, day: u16) -> Vec<View> {
+    (0..file.subjects).map(|subject| of_subject(file, day, subject)).collect()
 }
 
 #[derive(Clone)]

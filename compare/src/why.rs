@@ -2,7 +2,8 @@
 //! from the text, attribute by attribute: neither the planner's profiles nor
 //! its candidates are used, so that they can be held against it.
 
-use crate::file::{File, Node, Work};
+use crate::days::Days;
+use crate::file::{File, Grant, Node, Work};
 use crate::planner::Study;
 use crate::reading::Refusal;
 
@@ -65,14 +66,27 @@ struct Reasons {
 }
 
 /// The own grant for a relation, or else the one to any, or else nothing.
+/// The grant by which a subject sees a relation, if there is one. Looked for from the
+/// last record to the first, among those that have begun and are not over.
+fn in_force(file: &File, relation: usize, subject: usize) -> Option<&Grant> {
+    let mut to_any = None;
+    for grant in file.grants.iter().rev().filter(|grant| grant.relation == relation) {
+        let Days { first, last } = grant.days;
+        if (first..=last).contains(&file.nights_day()) {
+            match grant.subject {
+                Some(one) if one == subject => return Some(grant),
+                Some(_) => {}
+                None => to_any = Some(grant),
+            }
+        }
+    }
+    to_any
+}
+
 fn sight(file: &File, subject: usize) -> Sight {
     let mut sight = vec![None; file.attributes];
     for relation in 0..file.relations.len() {
-        let mut grants = file.grants.iter().filter(|grant| grant.relation == relation);
-        let own = grants.clone().find(|grant| grant.subject == Some(subject));
-        let Some(grant) = own.or_else(|| grants.find(|grant| grant.subject.is_none())) else {
-            continue;
-        };
+        let Some(grant) = in_force(file, relation, subject) else { continue };
         for (attribute, seen) in sight.iter_mut().enumerate() {
             if grant.clear.has(attribute) {
                 *seen = Some(Form::Clear);

@@ -1,8 +1,8 @@
 //! The program `why`: started once for each of some questions, the file on its
 //! standard input, node and subject as words; all that it prints is compared.
 
-use crate::file::VERSIONS;
 use crate::generate::Case;
+use crate::layout::VERSIONS;
 use crate::planner::{Study, study};
 use crate::program::printed;
 use crate::reading::Refusal;
@@ -26,8 +26,8 @@ pub const SORTS: [&str; 11] = [
 ];
 /// On files of each version so many starts of each of these sorts, and so many
 /// answered ones on files of many nodes; and so many of each refusal 1 to 11.
-const WANTED: [usize; SORTS.len()] = [14, 8, 8, 8, 8, 8, 8, 14, 4, 4, 4];
-const OF_MANY: usize = 7;
+const WANTED: [usize; SORTS.len()] = [11, 6, 6, 6, 6, 6, 6, 11, 3, 3, 3];
+const OF_MANY: usize = 5;
 const OF_REFUSAL: usize = 8;
 /// How many sorts of starts there are on files of one version.
 const OF_VERSION: usize = SORTS.len() + 1;

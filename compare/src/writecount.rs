@@ -3,11 +3,12 @@
 
 use std::fmt::Display;
 
+use crate::calendar::wrong;
 use crate::coverage::{Line, count, line};
-use crate::file::VERSIONS;
+use crate::layout::VERSIONS;
 use crate::orders::{FAR, UNKNOWN_VERSIONS};
 use crate::reading::{Refusal, read};
-use crate::values::{LISTS, Node, PAIRS, Values, with_pairs};
+use crate::values::{Grant, LISTS, Node, PAIRS, Values, with_days, with_pairs};
 use crate::writer::{Order, outside};
 
 /// Each with its floor: the refusals of values, and those of files that have some.
@@ -16,26 +17,26 @@ const REFUSED: [(u64, usize); 11] = [
     (3, 14_000),
     (4, 8_000),
     (5, 3_850),
-    (6, 3_450),
-    (7, 520),
+    (6, 4_550),
+    (7, 1_100),
     (8, 4_500),
     (9, 2_500),
     (10, 1_000),
-    (11, 1_100),
+    (11, 1_400),
     (15, 8_150),
 ];
 const REFUSED_BACK: [(u64, usize); 7] =
-    [(5, 3_700), (6, 4_000), (7, 440), (8, 5_800), (9, 3_350), (10, 1_350), (11, 850)];
+    [(5, 3_700), (6, 5_600), (7, 1_250), (8, 5_800), (9, 3_350), (10, 1_350), (11, 1_200)];
 /// For each version.
-const BACK: [(usize, usize); VERSIONS] = [(1, 19_500), (2, 19_500), (3, 19_000)];
-const WRITTEN: [(usize, usize); VERSIONS] = [(1, 13_000), (2, 12_000), (3, 12_000)];
+const BACK: [(usize, usize); VERSIONS] = [(1, 14_000), (2, 13_500), (3, 14_000), (4, 15_000)];
+const WRITTEN: [(usize, usize); VERSIONS] = [(1, 9_500), (2, 9_000), (3, 9_000), (4, 9_000)];
 /// For each version that there is not.
 const LEAST_OF_UNKNOWN: usize = 340;
 const MISCOUNTED: [(&str, usize); LISTS.len()] = [
     (LISTS[0], 1_350),
     (LISTS[1], 1_650),
     (LISTS[2], 1_100),
-    (LISTS[3], 840),
+    (LISTS[3], 1_100),
     (LISTS[4], 1_100),
     (LISTS[5], 1_150),
 ];
@@ -54,7 +55,7 @@ const OUTSIDE: [(&str, usize); 6] = [
     ("attributes", 940),
     ("nodes", 960),
     ("grants", 1_250),
-    ("the user", 1_800),
+    ("the user", 2_200),
 ];
 const ROOMS: [(&str, usize); 6] = [
     ("exactly long enough", 23_000),
@@ -67,14 +68,14 @@ const ROOMS: [(&str, usize); 6] = [
 /// The first is given, the other would be if it were asked before.
 const COMPETING: [(&str, usize); 9] = [
     ("2 before 4", 180),
-    ("2 before 3", 1_350),
+    ("2 before 3", 1_750),
     ("2 before 15", 650),
     ("4 before 3", 2_150),
     ("4 before 15", 2_150),
     ("3 before 5 to 11", 1_600),
     ("3 before 15", 2_350),
     ("5 to 10 before 15", 3_050),
-    ("11 before 15", 165),
+    ("11 before 15", 210),
 ];
 
 #[derive(Default)]
@@ -86,6 +87,11 @@ pub struct Writes {
     odd_user: usize,
     odd_pairs: usize,
     odd_named: usize,
+    odd_night: usize,
+    odd_days: usize,
+    odd_order: usize,
+    idle: usize,
+    refused_days: usize,
     joins: usize,
     kind_before: usize,
     listed_before: usize,
@@ -140,6 +146,11 @@ fn ways(values: &Values) -> [bool; WAYS.len()] {
     ]
 }
 
+/// Whether a grant in version 4 is wrong by its days alone.
+fn wrong_days(values: &Values, place: usize) -> bool {
+    with_days(values.header.version) && wrong(values, place).is_some_and(|wrong| !wrong.undated)
+}
+
 /// Whether reading would refuse the records that the counts ask for, where the
 /// lists have them all.
 fn faulty(values: &Values) -> bool {
@@ -177,6 +188,8 @@ impl Writes {
             Some(number) => {
                 add(&mut self.refused, REFUSED.map(|(n, _)| n == number));
                 self.refusal(values, number);
+                let place = verdict.as_ref().err().map_or(0, |refusal| refusal.place as usize);
+                self.refused_days += count(number == 6 && wrong_days(values, place));
                 self.compete(values, number, *room < length);
                 self.rooms[4] += count(number == 15 && room + 1 == length);
                 self.rooms[5] += count(number == 15 && *room == 0 && *bare == 0);
@@ -191,11 +204,25 @@ impl Writes {
         self.odd_pairs += count(!listed && header.pairs > 0);
         self.odd_named += count(!listed && nodes.iter().any(named));
         self.joins += count(nodes.iter().any(|node| node.kind == 9));
+        self.days(values);
         self.written[usize::from(header.version) - 1] += 1;
         self.odd_user += count(header.version == 1 && header.user >= header.subjects);
         self.at_the_limits += count(header.nodes == 64 && header.subjects == 16);
         let long = over + header.file_length() > u16::MAX.into();
         self.rooms[if long { 3 } else { over.min(2) }] += 1;
+    }
+
+    /// Values that are written, by their days: before version 4 these mean nothing.
+    fn days(&mut self, values: &Values) {
+        let Values { header, grants, .. } = values;
+        let any = |holds: &dyn Fn(&Grant) -> bool| count(grants.iter().any(holds));
+        if with_days(header.version) {
+            self.idle += any(&|grant| !(grant.first..=grant.last).contains(&header.day));
+            return;
+        }
+        self.odd_night += count(header.day > 0);
+        self.odd_days += any(&|grant| (grant.first, grant.last) != (0, u16::MAX));
+        self.odd_order += any(&|grant| grant.first > grant.last);
     }
 
     /// What is wrong with values that are refused with 2, 4 or 3.
@@ -248,18 +275,23 @@ impl Writes {
         let whole = self.back.iter().chain(&self.written).sum();
         let mut lines = vec![
             line("nights written and read back", whole, 100_000),
-            line("values written in version 1, the user nobody's number", self.odd_user, 9_750),
-            line("values written without pairs, a number of pairs", self.odd_pairs, 19_000),
-            line("values written without pairs, a node names some", self.odd_named, 24_000),
-            line("values written with a join on pairs", self.joins, 4_500),
+            line("values written in version 1, the user nobody's number", self.odd_user, 7_250),
+            line("values written without pairs, a number of pairs", self.odd_pairs, 14_000),
+            line("values written without pairs, a node names some", self.odd_named, 17_500),
+            line("values written without days, a night's day", self.odd_night, 20_500),
+            line("values written without days, a grant with some", self.odd_days, 27_000),
+            line("values written without days, a first after the last", self.odd_order, 24_500),
+            line("values written with a grant out of force", self.idle, 6_050),
+            line("values refused with 6 for days", self.refused_days, 1_250),
+            line("values written with a join on pairs", self.joins, 6_150),
             line("values refused with 8, kind 9 in version 1 or 2", self.kind_before, 360),
-            line("values refused with 3, pairs in version 1 or 2", self.listed_before, 710),
-            line("values refused with 3, one pair more or fewer", self.by_a_pair, 100),
-            line("values refused with 3, as many bytes as pairs", self.half_listed, 40),
+            line("values refused with 3, pairs in version 1 or 2", self.listed_before, 540),
+            line("values refused with 3, one pair more or fewer", self.by_a_pair, 140),
+            line("values refused with 3, as many bytes as pairs", self.half_listed, 70),
             line("values written, 64 nodes and 16 subjects", self.at_the_limits, 100),
             line("values refused with 4, the lists as many", self.outside_as_many, 5_600),
             line("values with an empty list behind a null pointer", self.null_lists, 1_050),
-            line("values without pairs behind a null pointer", self.null_pairs, 33_000),
+            line("values without pairs behind a null pointer", self.null_pairs, 28_000),
         ];
         let unknown = UNKNOWN_VERSIONS.map(|version| (version, LEAST_OF_UNKNOWN));
         lines.extend(lines_of("files through values and back, version", &BACK, &self.back));

@@ -76,7 +76,7 @@ pub fn outside(header: &Header) -> [bool; 6] {
 /// The file that is written, or the refusal: 1 cannot arise, and of what reading
 /// refuses only 5 to 11 is left once the header and the lists fit.
 pub fn verdict(values: &Values, room: usize) -> Result<Vec<u8>, Refusal> {
-    if !(1..=3).contains(&values.header.version) {
+    if !(1..=4).contains(&values.header.version) {
         return refuse(2, 0);
     }
     if outside(&values.header).contains(&true) {

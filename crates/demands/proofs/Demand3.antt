@@ -43,7 +43,7 @@ each-candidate s h e c = (
 )
 
 -- the keys that are given out are the run's
-run-keys : (N : Night) → Promised N → (c : Choice) → keysRoom N (built N c) ≡ inTurn (keyOf N (built N c)) (holders N (built N c)) (N .header .attributes)
+pub run-keys : (N : Night) → Promised N → (c : Choice) → keysRoom N (built N c) ≡ inTurn (keyOf N (built N c)) (holders N (built N c)) (N .header .attributes)
 unfolding keysRoom
 run-keys N sound c =
     turn-same (nameIn N (built N c)) (holdersIn N (built N c)) (keyOf N (built N c)) (holders N (built N c)) (N .header .attributes)

@@ -6,3 +6,4 @@ pub mod Why
 pub mod SampleRuns
 pub mod Demand3
 pub mod User
+pub mod Days

@@ -15,11 +15,11 @@ use Rattle.laws.specs.Trials.{answers}
 use Rattle.laws.specs.Upwards.{upwards}
 use Rattle.sets.specs.Sets.{bit, member, union, meet, minus, within, single, size, unions}
 use Rattle.night.specs.declared.Header.{Header}
-use Rattle.night.specs.Versions.{delivers, headerLength, hasPairs, nodeLength}
+use Rattle.night.specs.Versions.{delivers, headerLength, hasPairs, nodeLength, hasDays, grantLength}
 use Rattle.night.specs.Night.{Night, relationOf, grantOf, nodeOf, stepPrice, linkPrice, pairOf}
 use Rattle.night.specs.Kinds.{usesLeft, usesRight, reads, readTogether, visibleAfter, itsPair, bothOf, pairsRead}
 use Rattle.night.specs.Promised.{Promised}
-use Rattle.night.specs.Views.{anySubject, isFor, grantFor, viewOf, clearOf, sealedOf}
+use Rattle.night.specs.Views.{anySubject, isFor, sharesDay, isForOn, grantOn, viewOf, clearOf, sealedOf, viewOn, clearOn, sealedOn}
 use Rattle.format.specs.Layout.{grantsFrom, nodesFrom, stepPricesFrom, linkPricesFrom, headerOf, relationAt, grantAt, nodeAt, pricesAt, nightIn, nightOf, pairsFrom, pairsIn, pairAt}
 use Rattle.model.specs.Ties.{gathered, tie, merged}
 use Rattle.model.specs.Tables.{leastView, tests, ties, joined, result, leafTable, stepTable, tableStep, tables, tableOf}
@@ -54,12 +54,12 @@ computed :
     × (member (sealedOf sampleNight 1) 2 ≡ true)
     × (member (clearOf sampleNight 1) 2 ≡ false)
     × (member (viewOf sampleNight anySubject 0 .clear) 2 ≡ true)
-unfolding delivers hasPairs nodeLength headerLength anyOf be first somewhere upwards bit member union meet minus within single unions grantOf pairOf nodeOf usesRight itsPair bothOf pairsRead reads readTogether visibleAfter isFor grantFor viewOf clearOf sealedOf grantsFrom pairsFrom pairsIn nodesFrom stepPricesFrom linkPricesFrom headerOf relationAt grantAt pairAt nodeAt pricesAt nightIn gathered tie merged leastView tests ties joined result leafTable stepTable tableStep tables tableOf clearOffends sealedOffends tiedOffends may mayTake isCandidate candidateSet sample sampleIn ones size sum usesLeft weight stepsAt steps relationOf stepPrice linkPrice subjectsOf better handedOn bestOf bestChild rowEntry rowStep costRows bestLast withoutCandidate
+unfolding delivers hasPairs nodeLength headerLength anyOf be first somewhere upwards bit member union meet minus within single unions grantOf pairOf nodeOf usesRight itsPair bothOf pairsRead reads readTogether visibleAfter isFor sharesDay isForOn grantOn viewOn clearOn sealedOn grantsFrom pairsFrom pairsIn nodesFrom stepPricesFrom linkPricesFrom headerOf relationAt grantAt pairAt nodeAt pricesAt nightIn gathered tie merged leastView tests ties joined result leafTable stepTable tableStep tables tableOf clearOffends sealedOffends tiedOffends may mayTake isCandidate candidateSet sample sampleIn ones size sum usesLeft weight stepsAt steps relationOf stepPrice linkPrice subjectsOf better handedOn bestOf bestChild rowEntry rowStep costRows bestLast withoutCandidate hasDays grantLength
 computed = (refl, refl, refl, refl, refl, refl, refl, refl, refl, refl, refl, refl)
 
 -- and so of the bytes, which reading accepts with this header
 abbrev head : Header
-head = record { version = 1; subjects = 6; relations = 2; attributes = 6; nodes = 6; grants = 14; steps = 76; user = 0; pairs = 0 }
+head = record { version = 1; subjects = 6; relations = 2; attributes = 6; nodes = 6; grants = 14; steps = 76; user = 0; pairs = 0; day = 0 }
 
 of-bytes : (i set : ℕ) → candidateSet sampleNight i ≡ set → candidatesOf sample i ≡ answers set
 of-bytes i set e =

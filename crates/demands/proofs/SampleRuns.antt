@@ -9,11 +9,11 @@ use Rattle.laws.specs.Choose.{anyOf}
 use Rattle.laws.specs.First.{first, somewhere}
 use Rattle.laws.specs.Upwards.{upwards}
 use Rattle.sets.specs.Sets.{bit, member, union, meet, minus, within, apart, single, unions, lowest}
-use Rattle.night.specs.Versions.{delivers, headerLength, hasPairs, nodeLength}
+use Rattle.night.specs.Versions.{delivers, headerLength, hasPairs, nodeLength, hasDays, grantLength}
 use Rattle.night.specs.Night.{Night, relationOf, grantOf, nodeOf, pairOf}
 use Rattle.night.specs.Promised.{Promised}
 use Rattle.night.specs.Kinds.{usesLeft, usesRight, reads, readTogether, visibleAfter, visibleStep, visibles, itsPair, bothOf, pairsRead}
-use Rattle.night.specs.Views.{isFor, grantFor, viewOf, clearOf, sealedOf}
+use Rattle.night.specs.Views.{isFor, sharesDay, isForOn, grantOn, viewOn, clearOn, sealedOn}
 use Rattle.format.specs.Layout.{grantsFrom, nodesFrom, stepPricesFrom, linkPricesFrom, headerOf, relationAt, grantAt, nodeAt, pricesAt, nightIn, nightOf, pairsFrom, pairsIn, pairAt}
 use Rattle.run.specs.Keys.{events, everSealed, groupOf, keyName, holdersOf, keyHolders}
 use Rattle.run.specs.Run.{testedBy, tiedBy, spreadOver, spread, spreadTimes, reached, keyOf, leaving, openedBy, together, leafHeld, resultOver, arriving, heldStep, helds, resultOf, delivered, sealedIn, deliveries, allEvents, holders, Clean}
@@ -38,7 +38,7 @@ use Rattle.demands.proofs.SampleVerdicts.{said}
 
 -- none of the subjects is refused, without a user or with U
 none-bad : (first (offerBad sampleNight subjects) 6 ≡ 6) × (first (offerBad sampleUser subjects) 6 ≡ 6)
-unfolding anyOf first somewhere upwards bit member union meet minus within single unions relationOf grantOf pairOf nodeOf usesRight itsPair bothOf pairsRead reads readTogether visibleAfter isFor grantFor viewOf clearOf sealedOf gathered tie merged leastView tests ties joined result leafTable stepTable tableStep tables tableOf clearOffends sealedOffends tiedOffends may mayTake isCandidate candidateSet offerBad sampleIn
+unfolding anyOf first somewhere upwards bit member union meet minus within single unions relationOf grantOf pairOf nodeOf usesRight itsPair bothOf pairsRead reads readTogether visibleAfter isFor sharesDay isForOn grantOn viewOn clearOn sealedOn gathered tie merged leastView tests ties joined result leafTable stepTable tableStep tables tableOf clearOffends sealedOffends tiedOffends may mayTake isCandidate candidateSet offerBad sampleIn
 none-bad = (refl, refl)
 
 module _ (version user : ℕ) (none : first (offerBad (sampleIn version user) subjects) 6 ≡ 6) where
@@ -59,7 +59,7 @@ computed :
     × (keysRoom sampleNight (built sampleNight chosen) ≡ 0 ∷ 3 ∷ 64 ∷ 0 ∷ 2 ∷ 1 ∷ 3 ∷ 1 ∷ 0 ∷ 3 ∷ 5 ∷ 18 ∷ [])
     × (keysRoom sampleUser (built sampleUser chosen) ≡ 0 ∷ 3 ∷ 64 ∷ 0 ∷ 2 ∷ 1 ∷ 3 ∷ 5 ∷ 0 ∷ 3 ∷ 5 ∷ 18 ∷ [])
     × (holders sampleUser (built sampleUser chosen) 3 ≡ 5)
-unfolding delivers hasPairs nodeLength headerLength anyOf be first somewhere upwards bit member union meet minus within apart single unions lowest relationOf grantOf pairOf nodeOf usesLeft usesRight itsPair bothOf pairsRead reads readTogether visibleAfter visibleStep visibles grantsFrom pairsFrom pairsIn nodesFrom stepPricesFrom linkPricesFrom headerOf relationAt grantAt pairAt nodeAt pricesAt nightIn gathered tie merged leastView tests ties joined result leafTable stepTable tableStep tables tableOf leavesSealed arrivesSealed opensAt sealedStep sealedResults openings sealsStep sealings rootTied nameIn holdersIn inTurn planRoom keysRoom events everSealed groupOf keyName holdersOf keyHolders testedBy tiedBy spreadOver spread spreadTimes reached keyOf leaving openedBy together leafHeld resultOver arriving heldStep helds resultOf delivered sealedIn deliveries allEvents holders sampleIn sample trailingZeros
+unfolding delivers hasPairs nodeLength headerLength anyOf be first somewhere upwards bit member union meet minus within apart single unions lowest relationOf grantOf pairOf nodeOf usesLeft usesRight itsPair bothOf pairsRead reads readTogether visibleAfter visibleStep visibles grantsFrom pairsFrom pairsIn nodesFrom stepPricesFrom linkPricesFrom headerOf relationAt grantAt pairAt nodeAt pricesAt nightIn gathered tie merged leastView tests ties joined result leafTable stepTable tableStep tables tableOf leavesSealed arrivesSealed opensAt sealedStep sealedResults openings sealsStep sealings rootTied nameIn holdersIn inTurn planRoom keysRoom events everSealed groupOf keyName holdersOf keyHolders testedBy tiedBy spreadOver spread spreadTimes reached keyOf leaving openedBy together leafHeld resultOver arriving heldStep helds resultOf delivered sealedIn deliveries allEvents holders sampleIn sample trailingZeros hasDays grantLength
 computed = (refl, refl, refl, refl, refl)
 
 -- nobody asked in version 1

@@ -7,3 +7,4 @@ pub mod Why
 pub mod SampleRuns
 pub mod Demand3
 pub mod User
+pub mod Days

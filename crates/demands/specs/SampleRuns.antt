@@ -25,7 +25,7 @@ chosen i = getD subjects i 0
 pub record SampleRuns : Type 0 where
   -- reading accepts the file
   pub accepted :
-      checkOf sample ≡ answers (record { version = 1; subjects = 6; relations = 2; attributes = 6; nodes = 6; grants = 14; steps = 76; user = 0; pairs = 0 })
+      checkOf sample ≡ answers (record { version = 1; subjects = 6; relations = 2; attributes = 6; nodes = 6; grants = 14; steps = 76; user = 0; pairs = 0; day = 0 })
   -- the plan that is built for these subjects runs clean
   pub clean : Clean sampleNight (built sampleNight chosen)
   -- the bytes with U as user hold these values
@@ -47,5 +47,6 @@ pub record SampleRuns : Type 0 where
   pub sample-y : cheapest (withUser 4 sample) (room 6 12 12) ≡ refuses 17 0
   pub sample-z : cheapest (withUser 5 sample) (room 6 12 12) ≡ refuses 17 0
   pub sample-passes :
-      choosingOf (withUser 2 sample) ≡ answers (record { version = 2; subjects = 6; relations = 2; attributes = 6; nodes = 6; grants = 14; steps = 76; user = 2; pairs = 0 })
+      choosingOf (withUser 2 sample)
+      ≡ answers (record { version = 2; subjects = 6; relations = 2; attributes = 6; nodes = 6; grants = 14; steps = 76; user = 2; pairs = 0; day = 0 })
   pub sample-none : cheapest (withUser 6 sample) (room 6 12 12) ≡ refuses 4 0

@@ -9,6 +9,7 @@ use lib.Dec.{eqb}
 use lib.ListN.{length, getD, set}
 use borrow.Author.Tests.{eq-eqb, ne-eqb, eqb-true, eqb-false}
 use Rattle.laws.specs.Choose.{if_then_else_}
+use Rattle.laws.proofs.Cases.{clash}
 use Rattle.sets.specs.Sets.{minus, single, unions}
 use Rattle.night.specs.declared.Relation.{Relation}
 use Rattle.night.specs.declared.Node.{Node}
@@ -23,7 +24,6 @@ use Rattle.model.specs.Candidates.{clearOffends, sealedOffends}
 use Rattle.model.specs.Dp.{subjectsOf}
 use Rattle.model.specs.OneTest.{takenBy, passesBoth, outOf, Under}
 use Rattle.model.proofs.Chains.{tie-classes}
-use Rattle.model.proofs.Lowest.{clash}
 use Rattle.model.proofs.Meaning.{tied-meaning}
 use Rattle.model.proofs.Merged.{tie-length, merged-length}
 use Rattle.model.proofs.OneTest.{one-test-set}

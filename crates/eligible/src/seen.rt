@@ -6,7 +6,9 @@ use sets::attributes;
 use sets::subjects;
 ghost use mathlib.Core.Path.{_≡_};
 ghost use Prim.Native.Nat.{_<_};
+ghost use Rattle.laws.specs.Choose.{if_then_else_};
 ghost use Rattle.laws.specs.Upwards.{each};
+ghost use Rattle.sets.specs.Sets.{single};
 ghost use Rattle.format.specs.Layout.{nightIn};
 ghost use Rattle.night.specs.Promised.{Promised};
 ghost use Rattle.night.specs.Views.{clearOf, sealedOf};
@@ -66,8 +68,28 @@ fn each_seen(sets: &[u64; 32], own: &[u16; 16]) -> [u64; 16]
     seen
 }
 
-// What every subject sees, in one pass over the grants. A checked file has one grant at most for a pair of relation and subject, so
-// no earlier one is asked for: each grant's sets are joined to what its place holds.
+// The set where it counts, or else none.
+fn when_in(there: bool, set: u64) -> u64
+    ensures { λ r. ⌜ r ≡ (if there then set else 0) ⌝ }
+{
+    if there {
+        return set;
+    }
+    0
+}
+
+// The subject where it counts, or else none.
+fn whom(there: bool, p: u8) -> u16
+    ensures { λ r. ⌜ r ≡ (if there then single 16 p else 0) ⌝ }
+{
+    if there {
+        return subjects::single(p);
+    }
+    0
+}
+
+// What every subject sees on the night's day, in one pass over the grants. A checked file has one grant at most for a pair of relation and
+// subject that is in force that day, so no earlier one is asked for: each such grant's sets are joined to what its place holds.
 pub(crate) fn all_seen(file: &[u8], h: Header) -> Seen
     requires { ⌜ Promised (nightIn (now file) h) ⌝ }
     ensures { λ r. ⌜ (r .clear ≡ each 16 (clearOf (nightIn (now (file .entry)) h))) × (r .sealed ≡ each 16 (sealedOf (nightIn (now (file .entry)) h))) ⌝ }
@@ -81,9 +103,10 @@ pub(crate) fn all_seen(file: &[u8], h: Header) -> Seen
         let g = values::grant(file, h, i);
         let at = place(g);
         let r = g.relation as usize;
-        clear[at] = attributes::union(clear[at], g.clear);
-        sealed[at] = attributes::union(sealed[at], g.sealed);
-        own[r] = subjects::union(own[r], subjects::single(g.subject));
+        let there = views::in_force(g, h.day);
+        clear[at] = attributes::union(clear[at], when_in(there, g.clear));
+        sealed[at] = attributes::union(sealed[at], when_in(there, g.sealed));
+        own[r] = subjects::union(own[r], whom(there, g.subject));
         i += 1;
     }
     Seen {

@@ -9,9 +9,9 @@ use borrow.Author.Tests.{ltb-false}
 use Rattle.laws.specs.Choose.{if_then_else_}
 use Rattle.laws.proofs.Cases.{none-of}
 use Rattle.night.specs.declared.Header.{Header}
-use Rattle.night.specs.Versions.{hasPairs, headerLength, nodeLength}
+use Rattle.night.specs.Versions.{hasPairs, headerLength, grantLength, nodeLength}
 use Rattle.trials.specs.Rules.{countsBad}
-use Rattle.format.proofs.Written.{header-most, node-most}
+use Rattle.format.proofs.Written.{header-most, grant-most, node-most}
 use Rattle.format.specs.Layout.{grantsFrom, nodesFrom, pairsFrom, pairsIn, stepPricesFrom, linkPricesFrom, fileLength}
 use Rattle.encoding.specs.Encoded.{mostRelations, mostGrants, mostNodes, longest}
 
@@ -22,7 +22,7 @@ pub record Places (h : Header) : Type 0 where
   pub steps-few : h .nodes * h .subjects ≤ 1024
   pub links-few : h .subjects * h .subjects ≤ 256
   pub grants-at : grantsFrom h ≡ headerLength (h .version) + 9 * h .relations
-  pub nodes-at : nodesFrom h ≡ grantsFrom h + 18 * h .grants
+  pub nodes-at : nodesFrom h ≡ grantsFrom h + grantLength (h .version) * h .grants
   pub pairs-at : pairsFrom h ≡ nodesFrom h + nodeLength (h .version) * h .nodes
   pub steps-at : stepPricesFrom h ≡ pairsFrom h + 2 * pairsIn h
   pub links-at : linkPricesFrom h ≡ stepPricesFrom h + 4 * (h .nodes * h .subjects)
@@ -40,6 +40,7 @@ places-of h fine =
     let steps : h .nodes * h .subjects ≤ 1024 = mul-le-mul {n₁ = h .nodes} {m₁ = h .subjects} {n₂ = 64} {m₂ = 16} nodes subjects in
     let links : h .subjects * h .subjects ≤ 256 = mul-le-mul {n₁ = h .subjects} {m₁ = h .subjects} {n₂ = 16} {m₂ = 16} subjects subjects in
     let start = header-most (h .version) in
+    let dated : grantLength (h .version) * h .grants ≤ 5984 = mul-le-mul {n₁ = grantLength (h .version)} {m₁ = h .grants} {n₂ = 22} {m₂ = 272} (grant-most (h .version)) grants in
     let wide : nodeLength (h .version) * h .nodes ≤ 1920 = mul-le-mul {n₁ = nodeLength (h .version)} {m₁ = h .nodes} {n₂ = 30} {m₂ = 64} (node-most (h .version)) nodes in
     record {
       relations-few = relations;

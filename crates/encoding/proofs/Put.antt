@@ -15,8 +15,8 @@ use Rattle.night.specs.declared.Header.{Header}
 use Rattle.night.specs.declared.Relation.{Relation}
 use Rattle.night.specs.declared.Grant.{Grant}
 use Rattle.night.specs.declared.Node.{Node}
-use Rattle.night.specs.Versions.{delivers, hasPairs}
-use Rattle.night.proofs.Kept.{pairs-deliver}
+use Rattle.night.specs.Versions.{delivers, hasPairs, hasDays}
+use Rattle.night.proofs.Kept.{pairs-deliver, days-pairs}
 use Rattle.format.specs.Layout.{headerBytes, relationBytes, grantBytes, nodeStart, nodeBytes}
 use Rattle.encoding.specs.Stored.{Stored}
 
@@ -59,15 +59,29 @@ pub relation-put : (v : Relation) {s after : List ℕ} {at : ℕ} → Stored (se
 unfolding relationBytes
 relation-put v {s} {after} {at} set-put = put-then 1 refl (one-put s at (v .owner)) set-put
 
-pub grant-put : (v : Grant) {s done after : List ℕ} {at : ℕ}
+-- the days of a grant, in a version that has them
+abbrev daysOf : ℕ → Grant → List ℕ
+daysOf version v = if hasDays version then bytes 2 (v .first) ++ bytes 2 (v .last) else []
+
+pub grant-put : (version : ℕ) (v : Grant) {s done more after : List ℕ} {at : ℕ}
     → Stored (set (set s at (v .relation)) (at + 1) (v .subject)) done (at + 2) (bytes 8 (v .clear))
-    → Stored done after (at + 10) (bytes 8 (v .sealed))
-    → Stored s after at (grantBytes v)
-unfolding grantBytes
-grant-put v {s} {done} {after} {at} clear-put sealed-put =
-    let pair = v .relation ∷ v .subject ∷ [] in
-    let long : length (pair ++ bytes 8 (v .clear)) ≡ 10 = rw (bytes-length 8 (v .clear)) refl in
-    put-then 10 long (put-then 2 refl (pair-put s at (v .relation) (v .subject)) clear-put) sealed-put
+    → Stored done more (at + 10) (bytes 8 (v .sealed))
+    → Stored more after (at + 18) (daysOf version v)
+    → Stored s after at (grantBytes version v)
+unfolding grantBytes bytes
+grant-put version v {s} {done} {more} {after} {at} clear-put sealed-put days-put =
+    put-then 18 refl (put-then 10 refl (put-then 2 refl (pair-put s at (v .relation) (v .subject)) clear-put) sealed-put) days-put
+
+pub days-put : (version : ℕ) (v : Grant) (at : ℕ) {s done after : List ℕ} → hasDays version ≡ true
+    → Stored s done (at + 18) (bytes 2 (v .first))
+    → Stored done after (at + 20) (bytes 2 (v .last))
+    → Stored s after (at + 18) (daysOf version v)
+days-put version v at {s} {done} {after} e first last =
+    let next : at + 20 ≡ at + 18 + 2 = omega arith in
+    rw e (put-then 2 (bytes-length 2 (v .first)) first (rw next at last))
+
+pub no-days-put : (version : ℕ) (v : Grant) (at : ℕ) (s : List ℕ) → hasDays version ≡ false → Stored s s at (daysOf version v)
+no-days-put version v at s e = rw e (record { all = refl })
 
 pub start-put : (v : Node) (s : List ℕ) (at : ℕ)
     → Stored s
@@ -106,7 +120,9 @@ no-names-put version first count at s e = rw e (record { all = refl })
 
 -- what a header has behind the steps
 abbrev lastBytes : Header → List ℕ
-lastBytes h = (if delivers (h .version) then h .user ∷ [] else []) ++ (if hasPairs (h .version) then h .pairs ∷ [] else [])
+lastBytes h =
+    (if delivers (h .version) then h .user ∷ [] else [])
+    ++ ((if hasPairs (h .version) then h .pairs ∷ [] else []) ++ (if hasDays (h .version) then bytes 2 (h .day) else []))
 
 -- the header, run by run
 pub header-put : (h : Header) {s marked versioned counted granted stepped after : List ℕ}
@@ -121,13 +137,18 @@ unfolding headerBytes bytes
 header-put h mark version counts grants steps last =
     put-then 15 refl (put-then 11 refl (put-then 9 refl (put-then 5 refl (put-then 3 refl mark version) counts) grants) steps) last
 
--- what stands last in it: user and pairs, the user alone, neither
+-- what stands last in it: user, pairs and day, user and pairs, the user alone, none of them
 module _ (h : Header) (s : List ℕ) where
-  pub both-put : hasPairs (h .version) ≡ true → Stored s (set (set s 15 (h .user)) 16 (h .pairs)) 15 (lastBytes h)
-  both-put e = rw (e, pairs-deliver (h .version) e) (pair-put s 15 (h .user) (h .pairs))
+  pub day-put : {after : List ℕ} → hasDays (h .version) ≡ true → Stored (set (set s 15 (h .user)) 16 (h .pairs)) after 17 (bytes 2 (h .day)) → Stored s after 15 (lastBytes h)
+  day-put t day =
+      let p = days-pairs (h .version) t in
+      rw (t, p, pairs-deliver (h .version) p) (put-then 2 refl (pair-put s 15 (h .user) (h .pairs)) day)
 
-  pub user-put : hasPairs (h .version) ≡ false → delivers (h .version) ≡ true → Stored s (set s 15 (h .user)) 15 (lastBytes h)
-  user-put e d = rw (e, d) (one-put s 15 (h .user))
+  pub both-put : hasDays (h .version) ≡ false → hasPairs (h .version) ≡ true → Stored s (set (set s 15 (h .user)) 16 (h .pairs)) 15 (lastBytes h)
+  both-put t e = rw (t, e, pairs-deliver (h .version) e) (pair-put s 15 (h .user) (h .pairs))
 
-  pub none-put : hasPairs (h .version) ≡ false → delivers (h .version) ≡ false → Stored s s 15 (lastBytes h)
-  none-put e d = rw (e, d) (record { all = refl })
+  pub user-put : hasDays (h .version) ≡ false → hasPairs (h .version) ≡ false → delivers (h .version) ≡ true → Stored s (set s 15 (h .user)) 15 (lastBytes h)
+  user-put t e d = rw (t, e, d) (one-put s 15 (h .user))
+
+  pub none-put : hasDays (h .version) ≡ false → hasPairs (h .version) ≡ false → delivers (h .version) ≡ false → Stored s s 15 (lastBytes h)
+  none-put t e d = rw (t, e, d) (record { all = refl })

@@ -15,7 +15,7 @@ use Rattle.night.specs.declared.Header.{Header}
 use Rattle.night.specs.declared.Relation.{Relation}
 use Rattle.night.specs.declared.Grant.{Grant}
 use Rattle.night.specs.declared.Node.{Node}
-use Rattle.night.specs.Versions.{headerLength, nodeLength}
+use Rattle.night.specs.Versions.{headerLength, grantLength, nodeLength}
 use Rattle.night.specs.Night.{noRelation, noGrant, noNode}
 use Rattle.format.specs.Layout.{grantsFrom, nodesFrom, pairsFrom, pairsIn, stepPricesFrom, linkPricesFrom, headerBytes, relationBytes, grantBytes, nodeBytes}
 use Rattle.format.proofs.Written.{header-long, relation-long, grant-long, node-long}
@@ -39,7 +39,7 @@ module _ (h : Header) (relations : List Relation) (grants : List Grant) (nodes :
   relationsBytes = inOrder relationBytes (each (h .relations) (λ k. getD relations k noRelation))
 
   abbrev grantsBytes : List ℕ
-  grantsBytes = inOrder grantBytes (each (h .grants) (λ k. getD grants k noGrant))
+  grantsBytes = inOrder (grantBytes (h .version)) (each (h .grants) (λ k. getD grants k noGrant))
 
   abbrev nodesBytes : List ℕ
   nodesBytes = inOrder (nodeBytes (h .version)) (each (h .nodes) (λ k. getD nodes k noNode))
@@ -63,7 +63,7 @@ module _ (h : Header) (relations : List Relation) (grants : List Grant) (nodes :
       let S = inOrder (bytes 4) steps in
       let l₁ : length H ≡ headerLength (h .version) = header-long h in
       let l₂ : length (H ++ R) ≡ grantsFrom h = rw (length-append, l₁, long-section relationBytes 9 relation-long (λ k. getD relations k noRelation) (h .relations)) (sym (places .grants-at)) in
-      let l₃ : length ((H ++ R) ++ G) ≡ nodesFrom h = rw (length-append (H ++ R) G, l₂, long-section grantBytes 18 grant-long (λ k. getD grants k noGrant) (h .grants)) (sym (places .nodes-at)) in
+      let l₃ : length ((H ++ R) ++ G) ≡ nodesFrom h = rw (length-append (H ++ R) G, l₂, long-section (grantBytes (h .version)) (grantLength (h .version)) (grant-long (h .version)) (λ k. getD grants k noGrant) (h .grants)) (sym (places .nodes-at)) in
       let l₄ : length (((H ++ R) ++ G) ++ N) ≡ pairsFrom h = rw (length-append ((H ++ R) ++ G) N, l₃, long-section (nodeBytes (h .version)) (nodeLength (h .version)) (node-long (h .version)) (λ k. getD nodes k noNode) (h .nodes)) (sym (places .pairs-at)) in
       let l₅ : length ((((H ++ R) ++ G) ++ N) ++ pairs) ≡ stepPricesFrom h = rw (length-append (((H ++ R) ++ G) ++ N) pairs, l₄, paired) (sym (places .steps-at)) in
       let l₆ : length (((((H ++ R) ++ G) ++ N) ++ pairs) ++ S) ≡ linkPricesFrom h = rw (length-append ((((H ++ R) ++ G) ++ N) ++ pairs) S, l₅, in-order-length (bytes 4) 4 (bytes-length 4) steps, many) (sym (places .links-at)) in
@@ -83,7 +83,7 @@ module _ (h : Header) (relations : List Relation) (grants : List Grant) (nodes :
       record {
         header = header;
         relation = each-holds RelationFits (λ k. getD relations k noRelation) noRelation (h .relations) (lit< tt) relation;
-        grant = each-holds GrantFits (λ k. getD grants k noGrant) noGrant (h .grants) (lit< tt, lit< tt) grant;
+        grant = each-holds GrantFits (λ k. getD grants k noGrant) noGrant (h .grants) (lit< tt, lit< tt, lit< tt, lit< tt) grant;
         node = each-holds NodeFits (λ k. getD nodes k noNode) noNode (h .nodes) (lit< tt, lit< tt, lit< tt) node;
         step-price = step;
         link-price = link;

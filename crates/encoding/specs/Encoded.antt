@@ -22,7 +22,7 @@ use Rattle.encoding.specs.declared.Counted.{Counted}
 use Rattle.encoding.specs.declared.Counted.the-variants.{Right, Refused}
 
 -- the most relations, grants and nodes that a file may have, and the length of the longest file: document 01's 11,967, the user, and with pairs
--- their number, two bytes more for each node, and 255 pairs
+-- their number, two bytes more for each node, and 255 pairs; with days the night's, and four bytes more for each grant
 abbrev pub mostRelations : ℕ
 mostRelations = 16
 
@@ -33,7 +33,7 @@ abbrev pub mostNodes : ℕ
 mostNodes = 64
 
 abbrev pub longest : ℕ
-longest = 12607
+longest = 13697
 
 -- these values are handed in: of each kind of record how many there are, and an array that has them as far as it goes; what it has behind them is not looked at
 pub record Handed (vs : Values) (h : Header) (relations : List Relation) (r : ℕ) (grants : List Grant) (g : ℕ) (nodes : List Node) (n : ℕ)

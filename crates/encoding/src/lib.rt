@@ -32,7 +32,7 @@ pub const MOST_GRANTS: usize = 272;
 
 pub const MOST_NODES: usize = 64;
 
-pub const LONGEST: usize = 12_607;
+pub const LONGEST: usize = 13_697;
 
 // Whether the values are as many as the counts say, or the first of 2, 4 and 3 that refuses them; the place is 0.
 pub enum Counted {
@@ -159,7 +159,13 @@ fn put_all(
     records::put_header(room, h);
     let from = versions::header_length(h.version);
     sections::put_relations(room, from, relations, h.relations as usize);
-    sections::put_grants(room, places::grants_from(h), grants, h.grants as usize);
+    sections::put_grants(
+        room,
+        places::grants_from(h),
+        grants,
+        h.grants as usize,
+        h.version,
+    );
     sections::put_nodes(
         room,
         places::nodes_from(h),

@@ -9,8 +9,9 @@ ghost use Prim.Native.Nat.{_+_, _≤_};
 ghost use lib.ListN.{length};
 ghost use Rattle.encoding.specs.Stored.{Stored};
 ghost use mathlib.Core.List.{[], _∷_, _++_};
+ghost use Rattle.laws.specs.BigEndian.{bytes};
 ghost use Rattle.laws.specs.Choose.{if_then_else_};
-ghost use Rattle.night.specs.Versions.{delivers, hasPairs, headerLength, nodeLength};
+ghost use Rattle.night.specs.Versions.{delivers, hasPairs, hasDays, headerLength, grantLength, nodeLength};
 ghost use Rattle.format.specs.Layout.{headerBytes, relationBytes, grantBytes, nodeStart, nodeBytes};
 ghost use Rattle.writes.specs.Back.{HeaderFits, RelationFits, GrantFits, NodeFits};
 
@@ -48,12 +49,19 @@ fn put_counts(room: &mut [u8], h: Header)
     room[8] = h.nodes;
 }
 
-// What stands last: the user and the number of pairs, each in a version that has it.
+// What stands last: the user, the number of pairs and the day, each in a version that has it.
 fn put_last(room: &mut [u8], h: Header)
     requires { ⌜ headerLength (h .version) ≤ length (now room) ⌝ }
     ensures { λ _. ⌜ Stored (now (room .entry)) (now (room .exit)) 15
-        ((if delivers (h .version) then h .user ∷ [] else []) ++ (if hasPairs (h .version) then h .pairs ∷ [] else [])) ⌝ }
+        ((if delivers (h .version) then h .user ∷ [] else [])
+        ++ ((if hasPairs (h .version) then h .pairs ∷ [] else []) ++ (if hasDays (h .version) then bytes 2 (h .day) else []))) ⌝ }
 {
+    if versions::has_days(h.version) {
+        room[15] = h.user;
+        room[16] = h.pairs;
+        numbers::put_two(room, 17, h.day as u64);
+        return;
+    }
     if versions::has_pairs(h.version) {
         room[15] = h.user;
         room[16] = h.pairs;
@@ -74,15 +82,28 @@ pub(crate) fn put_relation(room: &mut [u8], at: usize, v: Relation)
     numbers::put_eight(room, at + 1, v.set);
 }
 
-// A grant's record.
-pub(crate) fn put_grant(room: &mut [u8], at: usize, v: Grant)
-    requires { ⌜ at + 18 ≤ length (now room) ⌝ }
-    ensures { λ _. ⌜ Stored (now (room .entry)) (now (room .exit)) at (grantBytes v) × GrantFits v ⌝ }
+// A grant's record, in this version.
+pub(crate) fn put_grant(room: &mut [u8], at: usize, v: Grant, version: u16)
+    requires { ⌜ at + grantLength version ≤ length (now room) ⌝ }
+    ensures { λ _. ⌜ Stored (now (room .entry)) (now (room .exit)) at (grantBytes version v) × GrantFits v ⌝ }
 {
     room[at] = v.relation;
     room[at + 1] = v.subject;
     numbers::put_eight(room, at + 2, v.clear);
     numbers::put_eight(room, at + 10, v.sealed);
+    put_days(room, at, v, version);
+}
+
+// What a grant that stands at `at` ends with: its first and its last day, in a version that has days.
+fn put_days(room: &mut [u8], at: usize, v: Grant, version: u16)
+    requires { ⌜ at + grantLength version ≤ length (now room) ⌝ }
+    ensures { λ _. ⌜ Stored (now (room .entry)) (now (room .exit)) (at + 18) (if hasDays version then bytes 2 (v .first) ++ bytes 2 (v .last) else []) ⌝ }
+{
+    if versions::has_days(version) {
+        numbers::put_two(room, at + 18, v.first as u64);
+        numbers::put_two(room, at + 20, v.last as u64);
+        return;
+    }
 }
 
 // A node's record, in this version.

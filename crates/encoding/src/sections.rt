@@ -15,7 +15,7 @@ ghost use Rattle.encoding.specs.Stored.{Stored};
 ghost use Rattle.laws.specs.BigEndian.{bytes};
 ghost use Rattle.laws.specs.InOrder.{inOrder};
 ghost use Rattle.laws.specs.Upwards.{each};
-ghost use Rattle.night.specs.Versions.{nodeLength};
+ghost use Rattle.night.specs.Versions.{grantLength, nodeLength};
 ghost use Rattle.night.specs.Night.{noRelation, noGrant, noNode};
 ghost use Rattle.format.specs.Layout.{relationBytes, grantBytes, nodeBytes};
 ghost use Rattle.writes.specs.Back.{RelationFits, GrantFits, NodeFits};
@@ -40,16 +40,23 @@ pub(crate) fn put_relations(
     }
 }
 
-// The first n grants.
-pub(crate) fn put_grants(room: &mut [u8], at: usize, grants: [Grant; MOST_GRANTS], n: usize)
-    requires { ⌜ (n ≤ mostGrants) × (at + 18 * n ≤ length (now room)) ⌝ }
-    ensures { λ _. ⌜ Stored (now (room .entry)) (now (room .exit)) at (inOrder grantBytes (each n (λ k. getD grants k noGrant)))
+// The first n grants, in this version.
+pub(crate) fn put_grants(
+    room: &mut [u8],
+    at: usize,
+    grants: [Grant; MOST_GRANTS],
+    n: usize,
+    version: u16,
+)
+    requires { ⌜ (n ≤ mostGrants) × (at + grantLength version * n ≤ length (now room)) ⌝ }
+    ensures { λ _. ⌜ Stored (now (room .entry)) (now (room .exit)) at (inOrder (grantBytes version) (each n (λ k. getD grants k noGrant)))
         × ((k : ℕ) → k < n → GrantFits (getD grants k noGrant)) ⌝ }
 {
     let mut i: usize = 0;
     while i < n {
         let v = grants[i];
-        records::put_grant(room, at + versions::GRANT_LENGTH * i, v);
+        let before = versions::grants_length(version, i as u16);
+        records::put_grant(room, at + before, v, version);
         i += 1;
     }
 }

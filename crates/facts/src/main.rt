@@ -1,5 +1,5 @@
-// Runs the figures of document 01 that are not marked as proved, and those of tickets 2026-01, 2026-02, 2026-04 and 2026-05. Standard input holds the cases
-// one after the other: a byte with the length of the name, the name; the entry that is asked, a byte; the lengths of the rooms for choice, plan and
+// Runs the figures of document 01 that are not marked as proved, and those of tickets 2026-01, 2026-02, 2026-04, 2026-05 and 2026-06. Standard input holds the
+// cases one after the other: a byte with the length of the name, the name; the entry that is asked, a byte; the lengths of the rooms for choice, plan and
 // keys, a byte each; a byte with the length of the offer, the offer; two bytes with the length of the file, the file. What the entry says of each
 // is printed in one line.
 mod entries;

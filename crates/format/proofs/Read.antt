@@ -13,13 +13,13 @@ use Rattle.night.specs.declared.Relation.{Relation}
 use Rattle.night.specs.declared.Grant.{Grant}
 use Rattle.night.specs.declared.Node.{Node}
 use Rattle.night.specs.declared.Pair.{Pair}
-use Rattle.night.specs.Versions.{delivers, hasPairs, headerLength, nodeLength}
+use Rattle.night.specs.Versions.{delivers, hasPairs, hasDays, headerLength, grantLength, nodeLength}
 use Rattle.night.specs.Night.{relationOf, grantOf, nodeOf, pairOf, stepPrice, linkPrice}
 use Rattle.format.specs.Layout.{grantsFrom, nodesFrom, pairsFrom, pairsIn, stepPricesFrom, headerOf, relationAt, grantAt, nodeAt, pairAt, nthPrice, nightIn}
 use Rattle.laws.proofs.BigEndian.{be-copied}
 use Rattle.format.proofs.Sections.{relation-at, grant-at, node-at, pair-at, price-in, step-price-in, link-price-in}
 
-pub header-made : {v p r a n g m u q : ℕ} (s : List ℕ)
+pub header-made : {v p r a n g m u q d : ℕ} (s : List ℕ)
     → v ≡ be s 3 2
     → p ≡ getD s 5 0
     → r ≡ getD s 6 0
@@ -29,10 +29,12 @@ pub header-made : {v p r a n g m u q : ℕ} (s : List ℕ)
     → m ≡ be s 11 4
     → u ≡ (if delivers v then getD s 15 0 else 0)
     → q ≡ (if hasPairs v then getD s 16 0 else 0)
-    → _≡_ {A = Header} (record { version = v; subjects = p; relations = r; attributes = a; nodes = n; grants = g; steps = m; user = u; pairs = q }) (headerOf s)
+    → d ≡ (if hasDays v then be s 17 2 else 0)
+    → _≡_ {A = Header} (record { version = v; subjects = p; relations = r; attributes = a; nodes = n; grants = g; steps = m; user = u; pairs = q; day = d }) (headerOf s)
 unfolding headerOf
-header-made s version subjects relations attributes nodes grants steps user pairs =
+header-made s version subjects relations attributes nodes grants steps user pairs day =
     let there = user ∙ ap (λ (n : ℕ). if delivers n then getD s 15 0 else 0) version in
+    let its-day = day ∙ ap (λ (n : ℕ). if hasDays n then be s 17 2 else 0) version in
     let many = pairs ∙ ap (λ (n : ℕ). if hasPairs n then getD s 16 0 else 0) version in
     λ i. record {
       version = version i;
@@ -44,7 +46,22 @@ header-made s version subjects relations attributes nodes grants steps user pair
       steps = steps i;
       user = there i;
       pairs = many i;
+      day = its-day i;
     }
+
+-- a grant at its place with these numbers, each of which is read by a call
+pub grant-made : {u v f l : ℕ} {b : Bool} (version : ℕ) (s : List ℕ) (at : ℕ)
+    → b ≡ hasDays version
+    → f ≡ (if b then be s (at + 18) 2 else 0)
+    → l ≡ (if b then be s (at + 20) 2 else 65535)
+    → u ≡ be s (at + 2) 8
+    → v ≡ be s (at + 10) 8
+    → _≡_ {A = Grant} (record { relation = getD s at 0; subject = getD s (at + 1) 0; first = f; last = l; clear = u; sealed = v }) (grantAt version s at)
+unfolding grantAt
+grant-made version s at dated first last clear sealed =
+    let its-first = first ∙ ap (λ (b : Bool). if b then be s (at + 18) 2 else 0) dated in
+    let its-last = last ∙ ap (λ (b : Bool). if b then be s (at + 20) 2 else 65535) dated in
+    λ i. record { relation = getD s at 0; subject = getD s (at + 1) 0; first = its-first i; last = its-last i; clear = clear i; sealed = sealed i }
 
 -- a node at its place with these numbers, each of which is read by a call
 abbrev nodeWith : List ℕ → ℕ → ℕ → ℕ → ℕ → ℕ → ℕ → Node
@@ -91,9 +108,20 @@ module _ (w : ℕ) (s : List ℕ) (at : ℕ) (p : List ℕ) (copied : (k : ℕ) 
   unfolding relationAt
   relation-copied l = cc (first (omega arith), number 1 8 (omega arith))
 
-  pub grant-copied : 18 ≤ w → grantAt p 0 ≡ grantAt s at
-  unfolding grantAt
-  grant-copied l = cc (first (omega arith), copied 1 (omega arith), number 2 8 (omega arith), number 10 8 (omega arith))
+  -- the days of a grant, where its version has them
+  days-copied : (b : Bool) → (if b then 22 else 18) ≤ w
+      → (18 ≤ w)
+      × ((if b then be p 18 2 else 0) ≡ (if b then be s (at + 18) 2 else 0))
+      × ((if b then be p 20 2 else 65535) ≡ (if b then be s (at + 20) 2 else 65535))
+  days-copied true l = (omega arith, number 18 2 (omega arith), number 20 2 (omega arith))
+  days-copied false l = (l, refl, refl)
+
+  pub grant-copied : (version : ℕ) → grantLength version ≤ w → grantAt version p 0 ≡ grantAt version s at
+  unfolding grantAt grantLength
+  grant-copied version l =
+      let days = days-copied (hasDays version) l in
+      let long = days .0 in
+      cc (first (omega arith), copied 1 (omega arith), number 2 8 (omega arith), number 10 8 (omega arith), days .1, days .2)
 
   -- the pairs that a node names, where its version has them
   names-copied : (b : Bool) → (if b then 30 else 28) ≤ w
@@ -133,8 +161,8 @@ module _ (s : List ℕ) (h : Header) (i : ℕ) where
       → v ≡ relationOf (nightIn s h) i
   relation-read l from there = there ∙ ap (λ (g : ℕ). relationAt s (g + 9 * i)) from ∙ sym (relation-at s h i l)
 
-  pub grant-read : {from : ℕ} {v : Grant} → i < h .grants → from ≡ grantsFrom h → v ≡ grantAt s (from + 18 * i) → v ≡ grantOf (nightIn s h) i
-  grant-read l from there = there ∙ ap (λ (g : ℕ). grantAt s (g + 18 * i)) from ∙ sym (grant-at s h i l)
+  pub grant-read : {from long : ℕ} {v : Grant} → i < h .grants → from ≡ grantsFrom h → long ≡ grantLength (h .version) * i → v ≡ grantAt (h .version) s (from + long) → v ≡ grantOf (nightIn s h) i
+  grant-read l from long there = there ∙ (λ j. grantAt (h .version) s (from j + long j)) ∙ sym (grant-at s h i l)
 
   pub node-read : {from long : ℕ} {v : Node} → i < h .nodes → from ≡ nodesFrom h → long ≡ nodeLength (h .version) * i → v ≡ nodeAt (h .version) s (from + long) → v ≡ nodeOf (nightIn s h) i
   node-read l from long there = there ∙ (λ j. nodeAt (h .version) s (from j + long j)) ∙ sym (node-at s h i l)

@@ -12,7 +12,7 @@ use Rattle.laws.specs.BigEndian.{be}
 use Rattle.laws.specs.Upwards.{each}
 use Rattle.laws.proofs.Upwards.{each-at, each-past}
 use Rattle.night.specs.declared.Header.{Header}
-use Rattle.night.specs.Versions.{headerLength, nodeLength}
+use Rattle.night.specs.Versions.{headerLength, grantLength, nodeLength}
 use Rattle.night.specs.Night.{relationOf, grantOf, nodeOf, pairOf, stepPrice, linkPrice, noRelation, noGrant, noNode, noPair}
 use Rattle.format.specs.Layout.{grantsFrom, nodesFrom, pairsFrom, pairsIn, stepPricesFrom, linkPricesFrom, relationAt, grantAt, nodeAt, pairAt, pricesAt, nthPrice, nightIn}
 
@@ -68,13 +68,13 @@ module _ (s : List ℕ) (h : Header) (i : ℕ) where
   unfolding relationOf nightIn
   relation-past l = each-past (λ k. relationAt s (headerLength (h .version) + 9 * k)) noRelation i (h .relations) l
 
-  pub grant-at : i < h .grants → grantOf (nightIn s h) i ≡ grantAt s (grantsFrom h + 18 * i)
+  pub grant-at : i < h .grants → grantOf (nightIn s h) i ≡ grantAt (h .version) s (grantsFrom h + grantLength (h .version) * i)
   unfolding grantOf nightIn
-  grant-at l = each-at (λ k. grantAt s (grantsFrom h + 18 * k)) noGrant i (h .grants) l
+  grant-at l = each-at (λ k. grantAt (h .version) s (grantsFrom h + grantLength (h .version) * k)) noGrant i (h .grants) l
 
   pub grant-past : h .grants ≤ i → grantOf (nightIn s h) i ≡ noGrant
   unfolding grantOf nightIn
-  grant-past l = each-past (λ k. grantAt s (grantsFrom h + 18 * k)) noGrant i (h .grants) l
+  grant-past l = each-past (λ k. grantAt (h .version) s (grantsFrom h + grantLength (h .version) * k)) noGrant i (h .grants) l
 
   pub node-at : i < h .nodes → nodeOf (nightIn s h) i ≡ nodeAt (h .version) s (nodesFrom h + nodeLength (h .version) * i)
   unfolding nodeOf nightIn

@@ -15,18 +15,43 @@ use Rattle.night.specs.declared.Header.{Header}
 use Rattle.night.specs.declared.Relation.{Relation}
 use Rattle.night.specs.declared.Grant.{Grant}
 use Rattle.night.specs.declared.Node.{Node}
-use Rattle.night.specs.Versions.{delivers, hasPairs, headerLength, nodeLength}
-use Rattle.night.proofs.Kept.{pairs-deliver}
-use Rattle.format.specs.Layout.{pairsIn, headerOf, headerBytes, asRead, relationAt, relationBytes, grantAt, grantBytes, nodeAt, nodeStart, nodeBytes, nodeAsRead}
+use Rattle.night.specs.Versions.{delivers, hasPairs, hasDays, headerLength, grantLength, nodeLength}
+use Rattle.night.proofs.Kept.{pairs-deliver, days-pairs}
+use Rattle.format.specs.Layout.{pairsIn, headerOf, headerBytes, asRead, relationAt, relationBytes, grantAt, grantBytes, grantAsRead, nodeAt, nodeStart, nodeBytes, nodeAsRead}
 
 -- how many
 pub relation-long : (v : Relation) → length (relationBytes v) ≡ 9
 unfolding relationBytes
 relation-long v = rw (bytes-length 8 (v .set)) refl
 
-pub grant-long : (v : Grant) → length (grantBytes v) ≡ 18
-unfolding grantBytes
-grant-long v = rw (length-append, bytes-length 8 (v .clear), bytes-length 8 (v .sealed)) refl
+-- the days of a grant, where its version has them
+abbrev dated : Bool → ℕ → ℕ → List ℕ
+dated b first last = if b then bytes 2 first ++ bytes 2 last else []
+
+pub grant-long : (version : ℕ) (v : Grant) → length (grantBytes version v) ≡ grantLength version
+unfolding grantBytes grantLength
+grant-long version v = simp (length-append, bytes-length) (go (hasDays version))
+  where
+    go : (b : Bool) → suc (suc (8 + (8 + length (dated b (v .first) (v .last))))) ≡ (if b then 22 else 18)
+    go true = simp (length-append, bytes-length) refl
+    go false = refl
+
+-- between eighteen and twenty-two
+pub grant-least : (version : ℕ) → 18 ≤ grantLength version
+unfolding grantLength
+grant-least version = go (hasDays version)
+  where
+    go : (b : Bool) → 18 ≤ (if b then 22 else 18)
+    go true = omega arith
+    go false = omega arith
+
+pub grant-most : (version : ℕ) → grantLength version ≤ 22
+unfolding grantLength
+grant-most version = go (hasDays version)
+  where
+    go : (b : Bool) → (if b then 22 else 18) ≤ 22
+    go true = omega arith
+    go false = omega arith
 
 -- the pairs that a node names, where its version has them
 abbrev named : Bool → ℕ → ℕ → List ℕ
@@ -41,38 +66,42 @@ node-long version v = simp (length-append, bytes-length) (go (hasPairs version))
     go false = refl
 
 -- what a header has behind the steps, where its version has it
-abbrev behind : Bool → Bool → ℕ → ℕ → List ℕ
-behind d p user pairs = (if d then user ∷ [] else []) ++ (if p then pairs ∷ [] else [])
+abbrev behind : Bool → Bool → Bool → ℕ → ℕ → ℕ → List ℕ
+behind d p t user pairs day = (if d then user ∷ [] else []) ++ ((if p then pairs ∷ [] else []) ++ (if t then bytes 2 day else []))
+
+-- how long it is, by these
+abbrev longBy : Bool → Bool → Bool → ℕ
+longBy d p t = if t then 19 else if p then 17 else if d then 16 else 15
+
+-- what holds of each sort of version: without anything, with a user, with pairs too, with days too
+by-sort : (Q : Bool → Bool → Bool → Type 0) → Q false false false → Q true false false → Q true true false → Q true true true
+    → (version : ℕ) → Q (delivers version) (hasPairs version) (hasDays version)
+by-sort Q none user pairs days version = go (delivers version) (hasPairs version) (hasDays version) (pairs-deliver version) (days-pairs version)
+  where
+    go : (d p t : Bool) → (p ≡ true → d ≡ true) → (t ≡ true → p ≡ true) → Q d p t
+    go true true true f g = days
+    go true true false f g = pairs
+    go true false true f g = absurd (let z : _≡_ {A = ℕ} 0 1 = cc (g refl) in omega arith)
+    go true false false f g = user
+    go false true t f g = absurd (let z : _≡_ {A = ℕ} 0 1 = cc (f refl) in omega arith)
+    go false false true f g = absurd (let z : _≡_ {A = ℕ} 0 1 = cc (g refl) in omega arith)
+    go false false false f g = none
 
 pub header-long : (h : Header) → length (headerBytes h) ≡ headerLength (h .version)
-unfolding headerBytes headerLength
-header-long h = simp (length-append, bytes-length) (go (delivers (h .version)) (hasPairs (h .version)) (pairs-deliver (h .version)))
-  where
-    go : (d p : Bool) → (p ≡ true → d ≡ true)
-        → suc (suc (suc (2 + suc (suc (suc (suc (2 + (4 + (length (if d then h .user ∷ [] else []) + length (if p then h .pairs ∷ [] else [])))))))))) ≡ (if p then 17 else if d then 16 else 15)
-    go true true f = refl
-    go true false f = refl
-    go false true f = absurd (let z : _≡_ {A = ℕ} 0 1 = cc (f refl) in omega arith)
-    go false false f = refl
+unfolding headerBytes headerLength bytes
+header-long h =
+    by-sort (λ d p t.
+    length (65 ∷ 88 ∷ 80 ∷ (bytes 2 (h .version) ++ (h .subjects ∷ h .relations ∷ h .attributes ∷ h .nodes
+    ∷ (bytes 2 (h .grants) ++ (bytes 4 (h .steps) ++ behind d p t (h .user) (h .pairs) (h .day)))))) ≡ longBy d p t) refl refl refl refl (h .version)
 
--- between fifteen and seventeen
+-- between fifteen and nineteen
 pub header-least : (version : ℕ) → 15 ≤ headerLength version
 unfolding headerLength
-header-least version = go (hasPairs version) (delivers version)
-  where
-    go : (p d : Bool) → 15 ≤ (if p then 17 else if d then 16 else 15)
-    go true d = omega arith
-    go false true = omega arith
-    go false false = omega arith
+header-least = by-sort (λ d p t. 15 ≤ longBy d p t) (omega arith) (omega arith) (omega arith) (omega arith)
 
-pub header-most : (version : ℕ) → headerLength version ≤ 17
+pub header-most : (version : ℕ) → headerLength version ≤ 19
 unfolding headerLength
-header-most version = go (hasPairs version) (delivers version)
-  where
-    go : (p d : Bool) → (if p then 17 else if d then 16 else 15) ≤ 17
-    go true d = omega arith
-    go false true = omega arith
-    go false false = omega arith
+header-most = by-sort (λ d p t. longBy d p t ≤ 19) (omega arith) (omega arith) (omega arith) (omega arith)
 
 -- between twenty-eight and thirty
 pub node-least : (version : ℕ) → 28 ≤ nodeLength version
@@ -92,23 +121,24 @@ node-most version = go (hasPairs version)
     go false = omega arith
 
 -- read after write, whatever stands behind the header
-behind-back : (v w u q : ℕ) (rest : List ℕ) → w ≡ v
-    → ((if delivers w then getD (behind (delivers v) (hasPairs v) u q ++ rest) 0 0 else 0) ≡ (if delivers v then u else 0))
-    × ((if hasPairs w then getD (behind (delivers v) (hasPairs v) u q ++ rest) 1 0 else 0) ≡ (if hasPairs v then q else 0))
-behind-back v w u q rest e = rw e (go (delivers v) (hasPairs v) (pairs-deliver v))
-  where
-    go : (d p : Bool) → (p ≡ true → d ≡ true)
-        → ((if d then getD (behind d p u q ++ rest) 0 0 else 0) ≡ (if d then u else 0)) × ((if p then getD (behind d p u q ++ rest) 1 0 else 0) ≡ (if p then q else 0))
-    go true true f = (refl, refl)
-    go true false f = (refl, refl)
-    go false true f = absurd (let z : _≡_ {A = ℕ} 0 1 = cc (f refl) in omega arith)
-    go false false f = (refl, refl)
+behind-back : (v w u q y : ℕ) (rest : List ℕ) → w ≡ v → y < 2 ^ 16
+    → ((if delivers w then getD (behind (delivers v) (hasPairs v) (hasDays v) u q y ++ rest) 0 0 else 0) ≡ (if delivers v then u else 0))
+    × ((if hasPairs w then getD (behind (delivers v) (hasPairs v) (hasDays v) u q y ++ rest) 1 0 else 0) ≡ (if hasPairs v then q else 0))
+    × ((if hasDays w then be (behind (delivers v) (hasPairs v) (hasDays v) u q y ++ rest) 2 2 else 0) ≡ (if hasDays v then y else 0))
+unfolding be bytes
+behind-back v w u q y rest e small =
+    rw e (by-sort (λ d p t.
+    ((if d then getD (behind d p t u q y ++ rest) 0 0 else 0) ≡ (if d then u else 0))
+    × ((if p then getD (behind d p t u q y ++ rest) 1 0 else 0) ≡ (if p then q else 0))
+    × ((if t then be (behind d p t u q y ++ rest) 2 2 else 0) ≡ (if t then y else 0)))
+    (refl, refl, refl) (refl, refl, refl) (refl, refl, refl) (refl, refl, be-bytes 2 y small) v)
 
-pub header-back : (h : Header) (rest : List ℕ) → h .version < 2 ^ 16 → h .grants < 2 ^ 16 → h .steps < 2 ^ 32 → headerOf (headerBytes h ++ rest) ≡ asRead h
+pub header-back : (h : Header) (rest : List ℕ) → h .version < 2 ^ 16 → h .grants < 2 ^ 16 → h .steps < 2 ^ 32 → h .day < 2 ^ 16
+    → headerOf (headerBytes h ++ rest) ≡ asRead h
 unfolding be bytes headerOf headerBytes asRead pairsIn
-header-back h rest version grants steps =
+header-back h rest version grants steps day =
     let its-version = be-bytes 2 (h .version) version in
-    let its-last = behind-back (h .version) (be (bytes 2 (h .version)) 0 2) (h .user) (h .pairs) rest its-version in
+    let its-last = behind-back (h .version) (be (bytes 2 (h .version)) 0 2) (h .user) (h .pairs) (h .day) rest its-version day in
     λ i. record {
       version = its-version i;
       subjects = h .subjects;
@@ -119,6 +149,7 @@ header-back h rest version grants steps =
       steps = be-bytes 4 (h .steps) steps i;
       user = its-last .0 i;
       pairs = its-last .1 i;
+      day = its-last .2 i;
     }
 
 -- of a record alone
@@ -126,10 +157,25 @@ pub relation-back : (v : Relation) → v .set < 2 ^ 64 → relationAt (relationB
 unfolding be bytes relationAt relationBytes
 relation-back v set = λ i. record { owner = v .owner; set = be-bytes 8 (v .set) set i }
 
-pub grant-back : (v : Grant) → v .clear < 2 ^ 64 → v .sealed < 2 ^ 64 → grantAt (grantBytes v) 0 ≡ v
-unfolding be bytes grantAt grantBytes
-grant-back v clear sealed =
-    λ i. record { relation = v .relation; subject = v .subject; clear = be-bytes 8 (v .clear) clear i; sealed = be-bytes 8 (v .sealed) sealed i }
+dated-back : (b : Bool) (first last : ℕ) → first < 2 ^ 16 → last < 2 ^ 16
+    → ((if b then be (dated b first last) 0 2 else 0) ≡ (if b then first else 0)) × ((if b then be (dated b first last) 2 2 else 65535) ≡ (if b then last else 65535))
+unfolding be bytes
+dated-back true first last l k = (be-bytes 2 first l, be-bytes 2 last k)
+dated-back false first last l k = (refl, refl)
+
+pub grant-back : (version : ℕ) (v : Grant) → v .clear < 2 ^ 64 → v .sealed < 2 ^ 64 → v .first < 2 ^ 16 → v .last < 2 ^ 16
+    → grantAt version (grantBytes version v) 0 ≡ grantAsRead version v
+unfolding be bytes grantAt grantBytes grantAsRead
+grant-back version v clear sealed first last =
+    let days = dated-back (hasDays version) (v .first) (v .last) first last in
+    λ i. record {
+      relation = v .relation;
+      subject = v .subject;
+      first = days .0 i;
+      last = days .1 i;
+      clear = be-bytes 8 (v .clear) clear i;
+      sealed = be-bytes 8 (v .sealed) sealed i;
+    }
 
 named-back : (b : Bool) (first count : ℕ)
     → ((if b then getD (named b first count) 0 0 else 0) ≡ (if b then first else 0)) × ((if b then getD (named b first count) 1 0 else 0) ≡ (if b then count else 0))
@@ -175,9 +221,23 @@ module _ (s : List ℕ) (all : (k : ℕ) → getD s k 0 < 256) (at : ℕ) where
   unfolding relationAt relationBytes
   relation-again l = rw (begins 8 (omega arith), last 1 8 (omega arith)) refl
 
-  pub grant-again : at + 18 ≤ length s → grantBytes (grantAt s at) ≡ take 18 (drop at s)
-  unfolding grantAt grantBytes
-  grant-again l = rw (begins 17 (omega arith), one 1 16 (omega arith), number 2 8 8 (omega arith), last 10 8 (omega arith)) refl
+  -- a grant, and n bytes behind its sets
+  grant-start : (n : ℕ) → at + 18 ≤ length s
+      → take (suc (suc (8 + (8 + n)))) (drop at s)
+      ≡ getD s at 0 ∷ getD s (at + 1) 0 ∷ (bytes 8 (be s (at + 2) 8) ++ (bytes 8 (be s (at + 10) 8) ++ take n (drop (at + 18) s)))
+  grant-start n l =
+      rw (begins (suc (8 + (8 + n))) (omega arith), one 1 (8 + (8 + n)) (omega arith), number 2 8 (8 + n) (omega arith), number 10 8 n (omega arith)) refl
+
+  pub grant-again : (version : ℕ) → at + grantLength version ≤ length s → grantBytes version (grantAt version s at) ≡ take (grantLength version) (drop at s)
+  unfolding grantAt grantBytes grantLength
+  grant-again version l = go (hasDays version) l
+    where
+      go : (b : Bool) → at + (if b then 22 else 18) ≤ length s
+          → getD s at 0 ∷ getD s (at + 1) 0 ∷ (bytes 8 (be s (at + 2) 8) ++ (bytes 8 (be s (at + 10) 8)
+          ++ dated b (if b then be s (at + 18) 2 else 0) (if b then be s (at + 20) 2 else 65535)))
+          ≡ take (if b then 22 else 18) (drop at s)
+      go true l = rw (← last 20 2 (omega arith), ← number 18 2 2 (omega arith)) (sym (grant-start 4 (omega arith)))
+      go false l = sym (grant-start 0 l)
 
   -- a node, and n bytes behind its size
   node-start : (n : ℕ) → at + 28 ≤ length s
@@ -216,9 +276,18 @@ module _ (s : List ℕ) (all : (k : ℕ) → getD s k 0 < 256) (at : ℕ) where
 pub header-again : (s : List ℕ) → ((k : ℕ) → getD s k 0 < 256) → getD s 0 0 ≡ 65 → getD s 1 0 ≡ 88 → getD s 2 0 ≡ 80
     → headerLength (headerOf s .version) ≤ length s → headerBytes (headerOf s) ≡ take (headerLength (headerOf s .version)) s
 unfolding headerOf headerBytes headerLength bytes
-header-again s all first second third long = go (delivers (be s 3 2)) (hasPairs (be s 3 2)) (pairs-deliver (be s 3 2)) long
+header-again s all first second third long =
+    by-sort (λ d p t. longBy d p t ≤ length s
+    → 65 ∷ 88 ∷ 80 ∷ (bytes 2 (be s 3 2) ++ (getD s 5 0 ∷ getD s 6 0 ∷ getD s 7 0 ∷ getD s 8 0
+    ∷ (bytes 2 (be s 9 2) ++ (bytes 4 (be s 11 4) ++ behind d p t (if d then getD s 15 0 else 0) (if p then getD s 16 0 else 0) (if t then be s 17 2 else 0)))))
+    ≡ take (longBy d p t) s)
+    (λ l. sym (before 0 l))
+    (λ l. sym (before 1 (omega arith) ∙ rw (one s all 0 15 0 (omega arith)) refl))
+    (λ l. sym (before 2 (omega arith) ∙ rw (one s all 0 15 1 (omega arith), one s all 0 16 0 (omega arith)) refl))
+    (λ l. sym (before 4 (omega arith) ∙ rw (one s all 0 15 3 (omega arith), one s all 0 16 2 (omega arith), last s all 0 17 2 (omega arith)) refl))
+    (be s 3 2) long
   where
-    -- what stands before user and pairs
+    -- what stands before user, pairs and day
     before : (n : ℕ) → 15 ≤ length s
         → take (15 + n) s
         ≡ 65 ∷ 88 ∷ 80 ∷ (bytes 2 (be s 3 2) ++ (getD s 5 0 ∷ getD s 6 0 ∷ getD s 7 0 ∷ getD s 8 0
@@ -240,12 +309,3 @@ header-again s all first second third long = go (delivers (be s 3 2)) (hasPairs 
           number s all 0 9 2 4 (omega arith),
           last s all 0 11 4 (omega arith),
         ) refl
-
-    go : (d p : Bool) → (p ≡ true → d ≡ true) → (if p then 17 else if d then 16 else 15) ≤ length s
-        → 65 ∷ 88 ∷ 80 ∷ (bytes 2 (be s 3 2) ++ (getD s 5 0 ∷ getD s 6 0 ∷ getD s 7 0 ∷ getD s 8 0
-        ∷ (bytes 2 (be s 9 2) ++ (bytes 4 (be s 11 4) ++ behind d p (if d then getD s 15 0 else 0) (if p then getD s 16 0 else 0)))))
-        ≡ take (if p then 17 else if d then 16 else 15) s
-    go true true f l = sym (before 2 (omega arith) ∙ rw (one s all 0 15 1 (omega arith), one s all 0 16 0 (omega arith)) refl)
-    go true false f l = sym (before 1 (omega arith) ∙ rw (one s all 0 15 0 (omega arith)) refl)
-    go false true f l = absurd (let z : _≡_ {A = ℕ} 0 1 = cc (f refl) in omega arith)
-    go false false f l = sym (before 0 l)

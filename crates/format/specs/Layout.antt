@@ -11,7 +11,7 @@ use Rattle.night.specs.declared.Relation.{Relation}
 use Rattle.night.specs.declared.Grant.{Grant}
 use Rattle.night.specs.declared.Node.{Node}
 use Rattle.night.specs.declared.Pair.{Pair}
-use Rattle.night.specs.Versions.{delivers, hasPairs, headerLength, relationLength, grantLength, nodeLength, pairLength}
+use Rattle.night.specs.Versions.{delivers, hasPairs, hasDays, headerLength, relationLength, grantLength, nodeLength, pairLength}
 use Rattle.night.specs.Night.{Night}
 
 -- where each section starts, and where the last one ends
@@ -37,8 +37,8 @@ linkPricesFrom h = stepPricesFrom h + 4 * (h .nodes * h .subjects)
 unfoldable pub fileLength : Header → ℕ
 fileLength h = linkPricesFrom h + 4 * (h .subjects * h .subjects)
 
--- the header's values: after the mark, version, subjects, relations, attributes, nodes, grants, steps allowed; the user and how many pairs, each 0 in a version
--- without it
+-- the header's values: after the mark, version, subjects, relations, attributes, nodes, grants, steps allowed; the user, how many pairs and the night's day, each 0 in a
+-- version without it
 unfoldable pub headerOf : List ℕ → Header
 headerOf s =
     record {
@@ -51,9 +51,10 @@ headerOf s =
       steps = be s 11 4;
       user = if delivers (be s 3 2) then getD s 15 0 else 0;
       pairs = if hasPairs (be s 3 2) then getD s 16 0 else 0;
+      day = if hasDays (be s 3 2) then be s 17 2 else 0;
     }
 
--- its bytes: the mark `AXP`, and the values in this order; a user and a number of pairs only in a version that has them
+-- its bytes: the mark `AXP`, and the values in this order; a user, a number of pairs and a day only in a version that has them
 unfoldable pub headerBytes : Header → List ℕ
 headerBytes h =
     65 ∷ 88 ∷ 80
@@ -62,7 +63,8 @@ headerBytes h =
     ∷ (bytes 2 (h .grants)
     ++ (bytes 4 (h .steps)
     ++ ((if delivers (h .version) then h .user ∷ [] else [])
-    ++ (if hasPairs (h .version) then h .pairs ∷ [] else []))))))
+    ++ ((if hasPairs (h .version) then h .pairs ∷ [] else [])
+    ++ (if hasDays (h .version) then bytes 2 (h .day) else [])))))))
 
 -- the header as these bytes are read: a field that the version doesn't have means nothing, and is read at its fixed value
 unfoldable pub asRead : Header → Header
@@ -77,6 +79,7 @@ asRead h =
       steps = h .steps;
       user = if delivers (h .version) then h .user else 0;
       pairs = pairsIn h;
+      day = if hasDays (h .version) then h .day else 0;
     }
 
 -- a relation: owner, set
@@ -86,12 +89,34 @@ relationAt s at = record { owner = getD s at 0; set = be s (at + 1) 8 }
 unfoldable pub relationBytes : Relation → List ℕ
 relationBytes v = v .owner ∷ bytes 8 (v .set)
 
--- a grant: relation, subject, set in clear, set sealed
-unfoldable pub grantAt : List ℕ → ℕ → Grant
-grantAt s at = record { relation = getD s at 0; subject = getD s (at + 1) 0; clear = be s (at + 2) 8; sealed = be s (at + 10) 8 }
+-- a grant: relation, subject, set in clear, set sealed; and its first and last day, every day in a version without days
+unfoldable pub grantAt : ℕ → List ℕ → ℕ → Grant
+grantAt version s at =
+    record {
+      relation = getD s at 0;
+      subject = getD s (at + 1) 0;
+      first = if hasDays version then be s (at + 18) 2 else 0;
+      last = if hasDays version then be s (at + 20) 2 else 65535;
+      clear = be s (at + 2) 8;
+      sealed = be s (at + 10) 8;
+    }
 
-unfoldable pub grantBytes : Grant → List ℕ
-grantBytes v = v .relation ∷ v .subject ∷ (bytes 8 (v .clear) ++ bytes 8 (v .sealed))
+unfoldable pub grantBytes : ℕ → Grant → List ℕ
+grantBytes version v =
+    v .relation ∷ v .subject
+    ∷ (bytes 8 (v .clear) ++ (bytes 8 (v .sealed) ++ (if hasDays version then bytes 2 (v .first) ++ bytes 2 (v .last) else [])))
+
+-- the grant as these bytes are read
+unfoldable pub grantAsRead : ℕ → Grant → Grant
+grantAsRead version v =
+    record {
+      relation = v .relation;
+      subject = v .subject;
+      first = if hasDays version then v .first else 0;
+      last = if hasDays version then v .last else 65535;
+      clear = v .clear;
+      sealed = v .sealed;
+    }
 
 -- a node: kind, left, right, x, y, three spare bytes, set, needed in clear, size; and the first pair and how many, 0 in a version without pairs
 unfoldable pub nodeAt : ℕ → List ℕ → ℕ → Node
@@ -157,7 +182,7 @@ nightIn s h =
     record {
       header = h;
       relations = each (h .relations) (λ i. relationAt s (headerLength (h .version) + relationLength (h .version) * i));
-      grants = each (h .grants) (λ i. grantAt s (grantsFrom h + grantLength (h .version) * i));
+      grants = each (h .grants) (λ i. grantAt (h .version) s (grantsFrom h + grantLength (h .version) * i));
       nodes = each (h .nodes) (λ i. nodeAt (h .version) s (nodesFrom h + nodeLength (h .version) * i));
       pairs = each (pairsIn h) (λ i. pairAt s (pairsFrom h + pairLength (h .version) * i));
       stepPrices = pricesAt s (stepPricesFrom h) (h .nodes) (h .subjects);

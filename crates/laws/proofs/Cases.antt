@@ -45,11 +45,11 @@ abbrev pub NoneOf : List Bool → Type 0
 NoneOf [] = Unit {0}
 NoneOf (b ∷ bs) = (b ≡ false) × NoneOf bs
 
+pub clash : true ≡ false → ⊥
+clash e = let z : _≡_ {A = ℕ} 0 1 = cc in omega arith
+
 pub none-of : (bs : List Bool) → anyOf bs ≡ false → NoneOf bs
 unfolding anyOf
 none-of [] e = tt
 none-of (true ∷ bs) e = absurd (clash e)
-  where
-    clash : true ≡ false → ⊥
-    clash e = let z : _≡_ {A = ℕ} 0 1 = cc in omega arith
 none-of (false ∷ bs) e = (refl, none-of bs e)

@@ -84,7 +84,7 @@ unfolding somewhere
 somewhere-true p n e = (first p n, ltb-true (first p n) n e, first-holds p n (ltb-true (first p n) n e))
 
 -- a test that fails everywhere below n holds nowhere there
-none-before : (p : ℕ → Bool) (n : ℕ) → ((k : ℕ) → k < n → p k ≡ false) → first p n ≡ n
+pub none-before : (p : ℕ → Bool) (n : ℕ) → ((k : ℕ) → k < n → p k ≡ false) → first p n ≡ n
 unfolding first
 none-before p zero h = refl
 none-before p (suc n) h = rw (le-ltb (first p n) n (omega (arith, none-before p n (λ k l. h k (omega arith)))), h n (omega arith)) refl

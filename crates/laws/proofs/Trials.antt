@@ -1,6 +1,6 @@
 -- What a verdict says of its row, for any row; rows one after the other; a loop over them.
 use Prim.Native.Nat.{ℕ, zero, suc, _+_, _<_, suc-le-suc}
-use mathlib.Core.Path.{_≡_, refl, sym, _∙_}
+use mathlib.Core.Path.{_≡_, refl, sym, ap, _∙_}
 use mathlib.Core.Bool.{Bool, true, false}
 use mathlib.Core.List.{List, [], _∷_, _++_}
 use native.Mathlib.Numerals.{add-one}
@@ -196,3 +196,11 @@ append-alike xs ys zs ws first second = go (verdict xs tt) refl
     go : (r : Says (Unit {0})) → verdict xs tt ≡ r → verdict (xs ++ zs) (tt {0}) ≡ verdict (ys ++ ws) tt
     go (answers tt) e = passed-then xs zs tt tt e ∙ second ∙ sym (passed-then ys ws tt tt (sym first ∙ e))
     go (refuses n p) e = refused-then xs zs tt tt n p e ∙ sym (refused-then ys ws tt tt n p (sym first ∙ e))
+
+-- and answer alike, where what they would answer is the same
+pub answers-alike : {A : Type 0} (xs ys : List Trial) (a b : A) → verdict xs (tt {0}) ≡ verdict ys tt → a ≡ b → verdict xs a ≡ verdict ys b
+answers-alike xs ys a b same e = go (verdict xs tt) refl
+  where
+    go : (r : Says (Unit {0})) → verdict xs tt ≡ r → verdict xs a ≡ verdict ys b
+    go (answers tt) q = accepted-alike xs tt tt a q ∙ ap answers e ∙ sym (accepted-alike ys tt tt b (sym same ∙ q))
+    go (refuses n p) q = refused-alike xs tt a n p q ∙ sym (refused-alike ys tt b n p (sym same ∙ q))

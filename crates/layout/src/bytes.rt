@@ -32,7 +32,7 @@ fn wide(x: u8) -> u64
     x as u64
 }
 
-// The 16-bit number at `at`. Only the header has such numbers, and it is read once.
+// The 16-bit number at `at`: the header has such numbers, and a grant its days.
 pub(crate) fn two(file: &[u8], at: usize) -> u16
     requires { ⌜ at < 2 ^ 31 ⌝ }
     ensures { λ r. ⌜ r ≡ be (now (file .entry)) at 2 ⌝ }
@@ -40,6 +40,17 @@ pub(crate) fn two(file: &[u8], at: usize) -> u16
     let a = wide(byte(file, at));
     let b = wide(byte(file, at + 1));
     (a * 256 + b) as u16
+}
+
+// The 16-bit number at `at` where there is such a field, or else another.
+pub(crate) fn two_or(there: bool, file: &[u8], at: usize, other: u16) -> u16
+    requires { ⌜ at < 2 ^ 31 ⌝ }
+    ensures { λ r. ⌜ r ≡ (if there then be (now (file .entry)) at 2 else other) ⌝ }
+{
+    if there {
+        return two(file, at);
+    }
+    other
 }
 
 // The 32-bit number at `at`, where the file has it whole. The compiler makes one load of a sum of this form, and of no sum of more bytes.

@@ -14,14 +14,14 @@ pub fn grants_from(h: Header) -> usize
 
 // Where the nodes start.
 pub fn nodes_from(h: Header) -> usize
-    ensures { λ r. ⌜ (r ≡ nodesFrom h) × (r < 1_200_000) ⌝ }
+    ensures { λ r. ⌜ (r ≡ nodesFrom h) × (r < 1_510_000) ⌝ }
 {
-    grants_from(h) + versions::GRANT_LENGTH * (h.grants as usize)
+    grants_from(h) + versions::grants_length(h.version, h.grants)
 }
 
 // Where the pairs start.
 pub fn pairs_from(h: Header) -> usize
-    ensures { λ r. ⌜ (r ≡ pairsFrom h) × (r < 1_250_000) ⌝ }
+    ensures { λ r. ⌜ (r ≡ pairsFrom h) × (r < 1_550_000) ⌝ }
 {
     nodes_from(h) + versions::nodes_length(h.version, h.nodes)
 }
@@ -38,7 +38,7 @@ pub fn pairs_in(h: Header) -> usize
 
 // Where the step prices start.
 pub fn step_prices_from(h: Header) -> usize
-    ensures { λ r. ⌜ (r ≡ stepPricesFrom h) × (r < 1_300_000) ⌝ }
+    ensures { λ r. ⌜ (r ≡ stepPricesFrom h) × (r < 1_600_000) ⌝ }
 {
     pairs_from(h) + versions::PAIR_LENGTH * pairs_in(h)
 }
@@ -66,7 +66,7 @@ pub(crate) fn prices(h: Header) -> usize
 
 // Where the link prices start.
 pub fn link_prices_from(h: Header) -> usize
-    ensures { λ r. ⌜ (r ≡ linkPricesFrom h) × (r < 1_600_000) ⌝ }
+    ensures { λ r. ⌜ (r ≡ linkPricesFrom h) × (r < 1_900_000) ⌝ }
 {
     step_prices_from(h) + 4 * step_prices(h)
 }

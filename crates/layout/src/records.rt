@@ -37,11 +37,17 @@ pub(crate) fn grant(i: usize, file: &[u8], h: Header) -> Grant
         return Grant {
             relation: 0,
             subject: 0,
+            first: 0,
+            last: 0,
             clear: 0,
             sealed: 0,
         };
     }
-    grant_at(file, places::grants_from(h) + versions::GRANT_LENGTH * i)
+    grant_at(
+        file,
+        places::grants_from(h) + versions::grants_length(h.version, i as u16),
+        h.version,
+    )
 }
 
 // Node i, where the header is h.
@@ -92,16 +98,16 @@ fn relation_at(file: &[u8], at: usize) -> Relation
 }
 
 // A grant's record.
-fn grant_at(file: &[u8], at: usize) -> Grant
-    requires { ⌜ at < 2 ^ 31 ⌝ }
-    ensures { λ r. ⌜ r ≡ grantAt (now (file .entry)) at ⌝ }
+fn grant_at(file: &[u8], at: usize, version: u16) -> Grant
+    requires { ⌜ at < 2 ^ 30 ⌝ }
+    ensures { λ r. ⌜ r ≡ grantAt version (now (file .entry)) at ⌝ }
 {
-    if file.len() < at + versions::GRANT_LENGTH {
+    if file.len() < at + versions::GRANT_START {
         let here = file;
-        let all = short::all_at(here, at, 0);
+        let all = short::all_at(here, at, version);
         return all.grant;
     }
-    whole::grant_in(file, at)
+    whole::grant_in(file, at, version)
 }
 
 // A node's record.

@@ -19,14 +19,14 @@ pub(crate) struct Records {
 pub(crate) fn all_at(file: &[u8], at: usize, version: u16) -> Records
     requires { ⌜ at < 2 ^ 31 ⌝ }
     ensures { λ r. ⌜ (r .relation ≡ relationAt (now (file .entry)) at)
-        × (r .grant ≡ grantAt (now (file .entry)) at)
+        × (r .grant ≡ grantAt version (now (file .entry)) at)
         × (r .node ≡ nodeAt version (now (file .entry)) at) ⌝ }
 {
     let bytes = bytes::padded(file, at);
     let part = &bytes[..30];
     Records {
         relation: whole::relation_in(part, 0),
-        grant: whole::grant_in(part, 0),
+        grant: whole::grant_in(part, 0, version),
         node: whole::node_in(part, 0, version),
     }
 }

@@ -28,6 +28,7 @@ pub fn header(file: &[u8]) -> Header
         steps: bytes::four(file, 11),
         user: bytes::byte_if(versions::delivers(version), file, 15),
         pairs: bytes::byte_if(versions::has_pairs(version), file, 16),
+        day: bytes::two_or(versions::has_days(version), file, 17, 0),
     }
 }
 

@@ -20,14 +20,19 @@ pub(crate) fn relation_in(file: &[u8], at: usize) -> Relation
     }
 }
 
-// A grant's record.
-pub(crate) fn grant_in(file: &[u8], at: usize) -> Grant
-    requires { ⌜ at + 18 ≤ length (now file) ⌝ }
-    ensures { λ r. ⌜ r ≡ grantAt (now (file .entry)) at ⌝ }
+// A grant's record. Its days, which not every version has, are read first: a test between the loads of its sets would undo that each is one load.
+pub(crate) fn grant_in(file: &[u8], at: usize, version: u16) -> Grant
+    requires { ⌜ (at + 18 ≤ length (now file)) × (at < 2 ^ 30) ⌝ }
+    ensures { λ r. ⌜ r ≡ grantAt version (now (file .entry)) at ⌝ }
 {
+    let dated = versions::has_days(version);
+    let first = bytes::two_or(dated, file, at + 18, 0);
+    let last = bytes::two_or(dated, file, at + 20, 65535);
     Grant {
         relation: file[at],
         subject: file[at + 1],
+        first,
+        last,
         clear: bytes::eight_in(file, at + 2),
         sealed: bytes::eight_in(file, at + 10),
     }

@@ -7,6 +7,7 @@ use native.Mathlib.Omega.{arith}
 use lib.Dec.{eqb}
 use borrow.Author.Tests.{eqb-true, eqb-false, eq-eqb}
 use Rattle.laws.specs.Choose.{if_then_else_}
+use Rattle.laws.proofs.Cases.{clash}
 use Rattle.sets.specs.Sets.{In}
 use Rattle.sets.proofs.Members.{same-members, in-or-not, out-member, in-union, in-minus, in-meet, in-none, in-unions}
 use Rattle.sets.proofs.Words.{in-single}
@@ -19,7 +20,6 @@ use Rattle.model.specs.Tables.{leafTable, tableOf}
 use Rattle.model.specs.Choice.{Choice}
 use Rattle.model.specs.Plan.{sealings, built}
 use Rattle.model.proofs.Parents.{root-there}
-use Rattle.model.proofs.Lowest.{clash}
 use Rattle.model.proofs.TableLaws.{table-leaf}
 use Rattle.model.proofs.Shown.{shown-visible, step-clear, step-sealed}
 use Rattle.model.proofs.HeldLaws.{held-absent}

@@ -11,7 +11,7 @@ use Rattle.laws.specs.Upwards.{upwards}
 use Rattle.sets.specs.Sets.{In, bit, member, union, meet, minus, within, single, lowest, unions}
 use Rattle.night.specs.Night.{relationOf, grantOf, nodeOf, pairOf, stepPrice, linkPrice}
 use Rattle.night.specs.Kinds.{usesLeft, usesRight, itsPair, bothOf, pairsRead, reads, readTogether, visibleAfter}
-use Rattle.night.specs.Views.{isFor, grantFor, viewOf, clearOf, sealedOf}
+use Rattle.night.specs.Views.{isFor, sharesDay, isForOn, grantOn, viewOn, clearOn, sealedOn, clearOf, sealedOf}
 use Rattle.model.specs.Ties.{gathered, tie, merged}
 use Rattle.model.specs.Tables.{leastView, tests, ties, joined, result, leafTable, stepTable, tableStep, tables, tableOf}
 use Rattle.model.specs.Candidates.{clearOffends, sealedOffends, tiedOffends, may, mayTake, isCandidate, candidateSet}
@@ -23,7 +23,7 @@ use Rattle.model.specs.Order.{evenNight, smallerLast, smallerFirst, Read
 
 -- everyone may run both steps
 everyone : (candidateSet evenNight 1 ≡ 7) × (candidateSet evenNight 2 ≡ 7)
-unfolding anyOf first somewhere upwards bit member union meet minus within single unions grantOf nodeOf usesRight reads readTogether visibleAfter isFor grantFor viewOf clearOf sealedOf gathered tie merged leastView tests ties joined result leafTable stepTable tableStep tables tableOf clearOffends sealedOffends tiedOffends may mayTake isCandidate candidateSet
+unfolding anyOf first somewhere upwards bit member union meet minus within single unions grantOf nodeOf usesRight reads readTogether visibleAfter isFor sharesDay isForOn grantOn viewOn clearOn sealedOn gathered tie merged leastView tests ties joined result leafTable stepTable tableStep tables tableOf clearOffends sealedOffends tiedOffends may mayTake isCandidate candidateSet
 everyone = (refl, refl)
 
 -- so a choice with the owner at the leaf and subjects that are there is admissible
@@ -98,7 +98,7 @@ standings =
     }
 
 pub small-tests : SmallTests
-unfolding anyOf first somewhere upwards bit member union meet minus within single unions grantOf nodeOf pairOf usesRight itsPair bothOf pairsRead reads readTogether visibleAfter isFor grantFor viewOf clearOf sealedOf gathered tie merged leastView tests ties joined result leafTable stepTable tableStep tables tableOf clearOffends sealedOffends takenBy splits outBy outOf passesBoth tiedOffends may mayTake isCandidate candidateSet
+unfolding anyOf first somewhere upwards bit member union meet minus within single unions grantOf nodeOf pairOf usesRight itsPair bothOf pairsRead reads readTogether visibleAfter isFor sharesDay isForOn grantOn viewOn clearOn sealedOn gathered tie merged leastView tests ties joined result leafTable stepTable tableStep tables tableOf clearOffends sealedOffends takenBy splits outBy outOf passesBoth tiedOffends may mayTake isCandidate candidateSet
 small-tests =
     record {
       half = refl;

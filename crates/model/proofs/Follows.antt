@@ -9,6 +9,7 @@ use native.Mathlib.Numerals.{add-one}
 use native.Mathlib.Omega.{arith}
 use lib.ListN.{length, getD, set, replicate, length-set, length-replicate}
 use lib.Seq.{getD-set-same, getD-set-other}
+use Rattle.laws.proofs.Cases.{clash}
 use Rattle.laws.specs.Choose.{if_then_else_}
 use Rattle.night.specs.declared.Node.{Node}
 use Rattle.night.specs.Night.{Night, nodeOf}
@@ -16,7 +17,7 @@ use Rattle.night.specs.Kinds.{usesLeft, usesRight, isChild}
 use Rattle.night.specs.Promised.{Promised}
 use Rattle.night.proofs.Children.{is-child}
 use Rattle.model.specs.Dp.{bestChild, costRows, giveChild, giveLeft, giveBoth, giveDown, bestLast, chosenLast, chosen}
-use Rattle.model.proofs.Lowest.{clash, not-holds}
+use Rattle.model.proofs.Lowest.{not-holds}
 use Rattle.model.proofs.Parents.{child-left, child-right, child-lower, one-parent}
 
 -- a loop from the last node down

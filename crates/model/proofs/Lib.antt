@@ -43,3 +43,4 @@ pub mod Turns
 pub mod SamePlan
 pub mod NightsAlike
 pub mod OnePair
+pub mod Days

@@ -10,6 +10,7 @@ use native.Mathlib.Omega.{arith}
 use lib.Dec.{ltb}
 use borrow.Author.Tests.{ltb-true, ltb-false}
 use Rattle.laws.specs.Choose.{if_then_else_}
+use Rattle.laws.proofs.Cases.{clash}
 use Rattle.sets.specs.Sets.{In, member}
 use Rattle.sets.proofs.Members.{member-in, not-member}
 use Rattle.night.specs.Night.{Night}
@@ -39,9 +40,6 @@ pub record Found (f : ℕ → ℕ) (among k : ℕ) (b : Best) : Type 0 where
 -- what is not below a number is from it on
 pub not-below : {a b : ℕ} → (a < b → ⊥) → b ≤ a
 not-below h = le-of-suc-le-suc (lt-of-not-le h)
-
-pub clash : true ≡ false → ⊥
-clash e = let z : _≡_ {A = ℕ} 0 1 = cc in omega arith
 
 -- a test that does not hold fails, and one that does not fail holds
 pub not-holds : (a : Bool) → (a ≡ true → ⊥) → a ≡ false

@@ -8,6 +8,7 @@ use native.Mathlib.Omega.{arith}
 use lib.Dec.{eqb}
 use borrow.Author.Tests.{eqb-true, eqb-false, lt-ltb}
 use Rattle.laws.specs.Choose.{if_then_else_, anyOf}
+use Rattle.laws.proofs.Cases.{clash}
 use Rattle.sets.specs.Sets.{In}
 use Rattle.sets.proofs.Words.{members-lt}
 use Rattle.night.specs.declared.Node.{Node}
@@ -17,7 +18,6 @@ use Rattle.night.specs.Promised.{Promised}
 use Rattle.night.proofs.Visible.{operand-map, step-uses-left, visible-below, reads-step, reads-operand}
 use Rattle.model.specs.Ties.{Classes, tie}
 use Rattle.model.specs.Tables.{leastView, joined, result, leafTable, stepTable, tableOf, ties, tieAll, Listed, TiedAt, here, under-left, under-right, TiedMeaning}
-use Rattle.model.proofs.Lowest.{clash}
 use Rattle.model.proofs.Together.{some-listed, together-read}
 use Rattle.model.proofs.Chains.{untied-classes, tie-classes, same-classes}
 use Rattle.model.proofs.Merged.{merged-classes}

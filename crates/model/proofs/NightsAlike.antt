@@ -11,6 +11,7 @@ use Rattle.laws.specs.Choose.{if_then_else_}
 use Rattle.laws.specs.Upwards.{each, upwards}
 use Rattle.laws.proofs.Upwards.{upwards-same}
 use Rattle.sets.specs.Sets.{In, member, single, unions}
+use Rattle.night.specs.declared.Header.{Header}
 use Rattle.night.specs.declared.Node.{Node}
 use Rattle.night.specs.Versions.{delivers}
 use Rattle.night.specs.Night.{Night, nodeOf}
@@ -45,9 +46,17 @@ pub record AlikeNodes (A B : Night) (v w : Node) : Type 0 where
   pub tested : tests v ≡ tests w
   pub tied : readTogether A v ≡ readTogether B w
 
+-- headers that say the same to tables and runs: the counts that these look at, the user, and whether there is one
+pub record AlikeHeaders (g h : Header) : Type 0 where
+  pub subjects : g .subjects ≡ h .subjects
+  pub attributes : g .attributes ≡ h .attributes
+  pub nodes : g .nodes ≡ h .nodes
+  pub user : g .user ≡ h .user
+  pub delivering : delivers (g .version) ≡ delivers (h .version)
+
 -- nights that differ in such nodes alone, and in what no run and no table looks at
 pub record AlikeNights (A B : Night) : Type 0 where
-  pub header : A .header ≡ B .header
+  pub header : AlikeHeaders (A .header) (B .header)
   pub clears : (q : ℕ) → clearOf A q ≡ clearOf B q
   pub sealeds : (q : ℕ) → sealedOf A q ≡ sealedOf B q
   pub node : (i : ℕ) → AlikeNodes A B (nodeOf A i) (nodeOf B i)
@@ -57,8 +66,15 @@ nodes-self : (A : Night) (v : Node) → AlikeNodes A A v v
 nodes-self A v =
     record { leaf = refl; uses-right = refl; left = refl; right = refl; set = refl; needed = refl; shows = λ l r. refl; read = refl; tested = refl; tied = refl }
 
+pub headers-self : (h : Header) → AlikeHeaders h h
+headers-self h = record { subjects = refl; attributes = refl; nodes = refl; user = refl; delivering = refl }
+
+headers-back : (g h : Header) → AlikeHeaders g h → AlikeHeaders h g
+headers-back g h s =
+    record { subjects = sym (s .subjects); attributes = sym (s .attributes); nodes = sym (s .nodes); user = sym (s .user); delivering = sym (s .delivering) }
+
 alike-self : (A : Night) → AlikeNights A A
-alike-self A = record { header = refl; clears = λ q. refl; sealeds = λ q. refl; node = λ i. nodes-self A (nodeOf A i) }
+alike-self A = record { header = headers-self (A .header); clears = λ q. refl; sealeds = λ q. refl; node = λ i. nodes-self A (nodeOf A i) }
 
 nodes-back : (A B : Night) (v w : Node) → AlikeNodes A B v w → AlikeNodes B A w v
 nodes-back A B v w s =
@@ -77,7 +93,7 @@ nodes-back A B v w s =
 
 alike-back : (A B : Night) → AlikeNights A B → AlikeNights B A
 alike-back A B s =
-    record { header = sym (s .header); clears = λ q. sym (s .clears q); sealeds = λ q. sym (s .sealeds q); node = λ i. nodes-back A B (nodeOf A i) (nodeOf B i) (s .node i) }
+    record { header = headers-back (A .header) (B .header) (s .header); clears = λ q. sym (s .clears q); sealeds = λ q. sym (s .sealeds q); node = λ i. nodes-back A B (nodeOf A i) (nodeOf B i) (s .node i) }
 
 -- a past with each step's kind as this night has it
 abbrev again : Night → Past → Past
@@ -102,7 +118,7 @@ module _ (A B : Night) (alike : AlikeNights A B) where
 
   visibles-same : visibles A ≡ visibles B
   unfolding visibles
-  visibles-same = upwards-same (visibleStep A) (visibleStep B) (A .header .nodes) (λ before i l. visible-step-same before i) ∙ (λ d. upwards (visibleStep B) (alike .header d .nodes))
+  visibles-same = upwards-same (visibleStep A) (visibleStep B) (A .header .nodes) (λ before i l. visible-step-same before i) ∙ (λ d. upwards (visibleStep B) (alike .header .nodes d))
 
   -- the same tables
   table-step-same : (before : List Table) (i : ℕ) → tableStep A before i ≡ tableStep B before i
@@ -112,7 +128,7 @@ module _ (A B : Night) (alike : AlikeNights A B) where
 
   tables-same : tables A ≡ tables B
   unfolding tables
-  tables-same = upwards-same (tableStep A) (tableStep B) (A .header .nodes) (λ before i l. table-step-same before i) ∙ (λ d. upwards (tableStep B) (alike .header d .nodes))
+  tables-same = upwards-same (tableStep A) (tableStep B) (A .header .nodes) (λ before i l. table-step-same before i) ∙ (λ d. upwards (tableStep B) (alike .header .nodes d))
 
   table-same : (i : ℕ) → tableOf A i ≡ tableOf B i
   unfolding tableOf
@@ -130,7 +146,7 @@ module _ (A B : Night) (alike : AlikeNights A B) where
 
   candidates-same : (i : ℕ) → candidateSet A i ≡ candidateSet B i
   unfolding candidateSet
-  candidates-same i = λ d. unions (λ q. if both q d then single 16 q else 0) (alike .header d .subjects)
+  candidates-same i = λ d. unions (λ q. if both q d then single 16 q else 0) (alike .header .subjects d)
     where
       both : (q : ℕ) → isCandidate A i (clearOf A q) (sealedOf A q) ≡ isCandidate B i (clearOf B q) (sealedOf B q)
       both q = is-same i (clearOf A q) (sealedOf A q) ∙ (λ d. isCandidate B i (alike .clears q d) (alike .sealeds q d))
@@ -152,16 +168,16 @@ module _ (A B : Night) (alike : AlikeNights A B) where
   times-same : (k s : ℕ) → spreadTimes A k s ≡ spreadTimes B k s
   unfolding spreadTimes
   times-same zero s = refl
-  times-same (suc k) s = spread-same (A .header .nodes) (spreadTimes A k s) ∙ (λ d. spread B (alike .header d .nodes) (times-same k s d))
+  times-same (suc k) s = spread-same (A .header .nodes) (spreadTimes A k s) ∙ (λ d. spread B (alike .header .nodes d) (times-same k s d))
 
   reached-same : (k : ℕ) → reached A k ≡ reached B k
   unfolding reached
   reached-same k = times-same 64 (attribute k)
 
   module _ (p : Plan) where
-    events-same : events A p ≡ events B p
+    pub events-same : events A p ≡ events B p
     unfolding events
-    events-same = λ d. each (alike .header d .nodes) (λ i. record { subject = p .subject i; opened = p .opens i; sealed = p .seals i })
+    events-same = λ d. each (alike .header .nodes d) (λ i. record { subject = p .subject i; opened = p .opens i; sealed = p .seals i })
 
     -- and keys are the same
     key-same : (a : ℕ) → keyOf A p a ≡ keyOf B p a
@@ -230,7 +246,7 @@ module _ (A B : Night) (alike : AlikeNights A B) where
 
     helds-same : helds B p ≡ map (recast B) (helds A p)
     unfolding helds
-    helds-same = (λ d. upwards (heldStep B p) (sym (alike .header) d .nodes)) ∙ upwards-map (recast B) (heldStep A p) (heldStep B p) step-same (A .header .nodes)
+    helds-same = (λ d. upwards (heldStep B p) (sym (alike .header .nodes) d)) ∙ upwards-map (recast B) (heldStep A p) (heldStep B p) step-same (A .header .nodes)
 
     result-same : (i : ℕ) → resultOf B p i ≡ recast B (resultOf A p i)
     unfolding resultOf
@@ -263,7 +279,7 @@ module _ (A B : Night) (alike : AlikeNights A B) where
     delivered-same : delivered B p ≡ recast B (delivered A p)
     unfolding delivered
     delivered-same =
-        (λ d. leaving B p (sym (alike .header) d .nodes - 1) (resultOf B p (sym (alike .header) d .nodes - 1)))
+        (λ d. leaving B p (sym (alike .header .nodes) d - 1) (resultOf B p (sym (alike .header .nodes) d - 1)))
         ∙ (λ d. leaving B p (A .header .nodes - 1) (result-same (A .header .nodes - 1) d)) ∙ leaving-same (A .header .nodes - 1) (resultOf A p (A .header .nodes - 1))
 
     received-same : received B p ≡ recast B (received A p)
@@ -273,12 +289,12 @@ module _ (A B : Night) (alike : AlikeNights A B) where
     -- so the keys have the same holders
     sealed-in-same : sealedIn A (delivered A p) ≡ sealedIn B (delivered B p)
     unfolding sealedIn
-    sealed-in-same = λ d. unions (λ a. if isSealed (sym delivered-same d .column a) then attribute a else 0) (alike .header d .attributes)
+    sealed-in-same = λ d. unions (λ a. if isSealed (sym delivered-same d .column a) then attribute a else 0) (alike .header .attributes d)
 
-    all-events-same : allEvents A p ≡ allEvents B p
+    pub all-events-same : allEvents A p ≡ allEvents B p
     unfolding allEvents deliveries
     all-events-same =
-        λ d. events-same d ++ (if delivers (alike .header d .version) then record { subject = alike .header d .user; opened = sealed-in-same d; sealed = 0 } ∷ [] else [])
+        λ d. events-same d ++ (if alike .header .delivering d then record { subject = alike .header .user d; opened = sealed-in-same d; sealed = 0 } ∷ [] else [])
 
     holder-same : (a : ℕ) → holders A p a ≡ holders B p a
     unfolding holders
@@ -333,7 +349,7 @@ module _ (A B : Night) (alike : AlikeNights A B) where
         result-made (λ z. s (eqb-true (nodeOf A i .kind) 0 (alike .node i .leaf ∙ eq-eqb (nodeOf B i .kind) 0 z))) (table-forbidden (resultOf A p i) (resultOf B p i) (p .subject i) (result-same A A self p i) (result-same A B alike p i) f)
 
     user : A .header .user ≡ B .header .user
-    user = λ d. alike .header d .user
+    user = alike .header .user
 
     -- and the same deliveries fail
     delivery-same : DeliveryFails A p → DeliveryFails B p
@@ -345,9 +361,9 @@ module _ (A B : Night) (alike : AlikeNights A B) where
 clean-same : (A B : Night) → AlikeNights A B → (p : Plan) → Clean A p → Clean B p
 clean-same A B alike p c =
     record {
-      free = λ i l h. c .free i (rw (alike .header) l) (stuck-same A B alike p i h);
-      allowed = λ i l h. c .allowed i (rw (alike .header) l) (forbidden-same B A (alike-back A B alike) p i h);
-      delivery = λ d h. c .delivery (rw (alike .header) d) (delivery-same B A (alike-back A B alike) p h);
+      free = λ i l h. c .free i (rw (alike .header .nodes) l) (stuck-same A B alike p i h);
+      allowed = λ i l h. c .allowed i (rw (alike .header .nodes) l) (forbidden-same B A (alike-back A B alike) p i h);
+      delivery = λ d h. c .delivery (rw (alike .header .delivering) d) (delivery-same B A (alike-back A B alike) p h);
     }
 
 -- all together

@@ -14,10 +14,10 @@ use Rattle.sets.specs.Sets.{union, unions}
 use Rattle.night.specs.declared.Node.{Node}
 use Rattle.night.specs.Night.{Night, noNode, grantOf, nodeOf, pairOf}
 use Rattle.night.specs.Kinds.{usesRight, itsPair, bothOf, pairsRead, reads, readTogether, visibleAfter}
-use Rattle.night.specs.Views.{grantFor, viewOf, clearOf, sealedOf}
+use Rattle.night.specs.Views.{grantOn, viewOn, clearOn, sealedOn, clearOf, sealedOf}
 use Rattle.model.specs.Tables.{tests}
 use Rattle.model.specs.OnePair.{asJoin, joinedAt, OnePair}
-use Rattle.model.proofs.NightsAlike.{AlikeNodes, AlikeNights, alike-same}
+use Rattle.model.proofs.NightsAlike.{AlikeNodes, AlikeNights, headers-self, alike-same}
 
 -- the node and its join, in whatever night the join is
 join-alike : (N M : Night) (v : Node) → v .kind ≡ 9 → v .count ≡ 1 → AlikeNodes N M v (asJoin N v)
@@ -65,8 +65,8 @@ module _ (N : Night) (i : ℕ) (e : nodeOf N i .kind ≡ 9) (c : nodeOf N i .cou
       go false q = subst (λ (w : Node). AlikeNodes N (joinedAt N i) (nodeOf N j) w) (sym (joined-other j (eqb-false j i q))) (stays-alike N i (nodeOf N j))
 
   nights-alike : AlikeNights N (joinedAt N i)
-  unfolding joinedAt clearOf sealedOf viewOf grantFor grantOf
-  nights-alike = record { header = refl; clears = λ q. refl; sealeds = λ q. refl; node = nodes-alike }
+  unfolding joinedAt clearOn sealedOn viewOn grantOn grantOf
+  nights-alike = record { header = headers-self (N .header); clears = λ q. refl; sealeds = λ q. refl; node = nodes-alike }
 
 pub one-pair : OnePair
 one-pair N i e c = alike-same N (joinedAt N i) (nights-alike N i e c)

@@ -8,6 +8,7 @@ use native.Mathlib.Omega.{arith}
 use lib.ListN.{getD}
 use borrow.Author.Tests.{eqb-true, eq-eqb}
 use Rattle.laws.specs.Choose.{if_then_else_}
+use Rattle.laws.proofs.Cases.{clash}
 use Rattle.sets.specs.Sets.{In, union, minus, single, unions}
 use Rattle.sets.proofs.Members.{same-members, in-union, in-minus}
 use Rattle.night.specs.declared.Node.{Node}
@@ -21,7 +22,7 @@ use Rattle.model.specs.Candidates.{clearOffends, sealedOffends, tiedOffe
 use Rattle.model.specs.OneTest.{takenBy, OneTest, splits, WholeAll, outOf, passesBoth, OneTestSet}
 use Rattle.model.specs.Reasons.{ClearLies, SealedLies}
 use Rattle.model.proofs.Kept.{never-removed}
-use Rattle.model.proofs.Lowest.{clash, not-holds}
+use Rattle.model.proofs.Lowest.{not-holds}
 use Rattle.model.proofs.May.{both-true, in-chosen, set-exactly}
 use Rattle.model.proofs.OutLaws.{whole-part, none-splits, out-of-exactly}
 use Rattle.model.proofs.ResultTied.{Lies, result-clear, result-sealed}

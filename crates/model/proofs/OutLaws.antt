@@ -8,6 +8,7 @@ use lib.Dec.{eqb}
 use lib.ListN.{getD}
 use borrow.Author.Tests.{eqb-true, eqb-false}
 use Rattle.laws.specs.First.{somewhere}
+use Rattle.laws.proofs.Cases.{clash}
 use Rattle.laws.proofs.First.{somewhere-true, somewhere-false, nowhere}
 use Rattle.sets.specs.Sets.{In, Within, member, union, unions}
 use Rattle.sets.proofs.Members.{same-members, member-in, in-union, in-unions, in-none}
@@ -17,7 +18,7 @@ use Rattle.night.specs.Views.{clearOf, sealedOf}
 use Rattle.model.specs.Ties.{untied, gathered, tie, Classes}
 use Rattle.model.specs.OneTest.{splits, WholeAll, TieHolds, outBy, outOf}
 use Rattle.model.proofs.Chains.{blank, chain-map, gathered-in, in-word, tie-met, tie-kept, tie-classes}
-use Rattle.model.proofs.Lowest.{clash, not-fails}
+use Rattle.model.proofs.Lowest.{not-fails}
 use Rattle.model.proofs.May.{in-chosen}
 use Rattle.model.proofs.Merged.{tied-word}
 use Rattle.model.proofs.Sees.{whole-exactly}

@@ -10,6 +10,7 @@ use borrow.Author.Tests.{ltb-true, ltb-false, eqb-true, eq-eqb, ne-eqb}
 use Rattle.laws.specs.Choose.{if_then_else_, anyOf}
 use Rattle.laws.specs.First.{somewhere}
 use Rattle.laws.specs.Sums.{sum}
+use Rattle.laws.proofs.Cases.{clash}
 use Rattle.laws.proofs.First.{somewhere-true, somewhere-false}
 use Rattle.laws.proofs.Sums.{sum-last, sum-le, sum-same, sum-add, sum-zero, sum-pick, sum-swap}
 use Rattle.night.specs.declared.Node.{Node}
@@ -17,7 +18,6 @@ use Rattle.night.specs.Night.{Night, nodeOf}
 use Rattle.night.specs.Kinds.{usesLeft, usesRight, isChild}
 use Rattle.night.specs.Promised.{Promised}
 use Rattle.night.proofs.Children.{is-child}
-use Rattle.model.proofs.Lowest.{clash}
 
 -- f at the children of node i, added up
 unfoldable pub children : Night → (ℕ → ℕ) → ℕ → ℕ

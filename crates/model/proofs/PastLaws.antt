@@ -9,6 +9,7 @@ use lib.Dec.{eqb}
 use borrow.Author.Tests.{eqb-true, eqb-false}
 use Rattle.laws.specs.Choose.{if_then_else_, anyOf}
 use Rattle.laws.specs.Upwards.{each}
+use Rattle.laws.proofs.Cases.{clash}
 use Rattle.sets.specs.Sets.{In, member}
 use Rattle.sets.proofs.Members.{in-member}
 use Rattle.night.specs.declared.Node.{Node}
@@ -22,7 +23,6 @@ use Rattle.model.specs.Tables.{tableOf, tests, ties, Listed, TiedAt, her
 use Rattle.run.specs.Run.{Form, absent, Past, Held, testedBy, tiedBy, Some, Tested, Tied, leaving, openedBy, together, leafHeld, resultOver, resultOf, leftOpened, rightOpened, opened}
 use Rattle.model.proofs.Together.{some-append, some-listed}
 use Rattle.model.proofs.Shown.{tests-read}
-use Rattle.model.proofs.Lowest.{clash}
 use Rattle.model.proofs.Chains.{same-classes}
 use Rattle.model.proofs.Meaning.{tied-by, leaf-untied, tied-meaning}
 use Rattle.model.proofs.HeldLaws.{held-leaf, held-step, left-comes, right-comes, right-none}

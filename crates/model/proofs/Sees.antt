@@ -5,6 +5,7 @@ use mathlib.Core.Bool.{Bool, true, false}
 use mathlib.Core.Logic.{_⊎_, inl, inr, ⊎-elim, _↔_}
 use lib.ListN.{getD}
 use Rattle.laws.specs.Choose.{if_then_else_}
+use Rattle.laws.proofs.Cases.{clash}
 use Rattle.sets.specs.Sets.{In, Within, union, minus, within}
 use Rattle.sets.proofs.Members.{same-members, in-or-not, in-union, in-minus, in-none, within-exactly}
 use Rattle.sets.proofs.Words.{not-within}
@@ -12,7 +13,6 @@ use Rattle.model.specs.declared.Table.{Table}
 use Rattle.model.specs.Candidates.{clearOffends, sealedOffends, tiedOffends, ClearHolds, SealedHolds, TiedHolds, May}
 use Rattle.model.specs.OneTest.{splits}
 use Rattle.model.specs.Reasons.{ClearLies, SealedLies, TiedLies}
-use Rattle.model.proofs.Lowest.{clash}
 
 -- what is visible or implicit in clear is in P, what is so sealed in P or E, and of a tied set all is in P or all in E
 pub record Sees (t : Table) (P E : ℕ) : Type 0 where

@@ -7,6 +7,7 @@ use native.Mathlib.Omega.{arith}
 use lib.Dec.{eqb}
 use borrow.Author.Tests.{eqb-true, eqb-false, lt-ltb}
 use Rattle.laws.specs.Choose.{if_then_else_}
+use Rattle.laws.proofs.Cases.{clash}
 use Rattle.sets.specs.Sets.{In, union, meet, minus}
 use Rattle.sets.proofs.Members.{same-members, in-or-not, in-union, in-meet, in-minus, in-none}
 use Rattle.night.specs.declared.Node.{Node}
@@ -16,7 +17,6 @@ use Rattle.night.specs.Promised.{Promised}
 use Rattle.night.proofs.Visible.{OfOperand, pick, step-uses-left, visible-leaf, visible-made, visible-operand, reads-operand}
 use Rattle.model.specs.declared.Table.{Table}
 use Rattle.model.specs.Tables.{shown, leastView, joined, result, tests, leafTable, stepTable, tableOf}
-use Rattle.model.proofs.Lowest.{clash}
 use Rattle.model.proofs.TableLaws.{table-leaf, table-step, operandOf, both, union-none}
 
 -- a part of the left one, or of the right one where there is one

@@ -12,3 +12,5 @@ pub mod Dp
 pub mod Plan
 pub mod User
 pub mod Demand
+pub mod Days
+pub mod ByDay

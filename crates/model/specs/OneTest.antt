@@ -75,12 +75,12 @@ pub data Under (N : Night) : ℕ → ℕ → Type 0 where
 abbrev pub threeViews : Night
 threeViews =
     record {
-      header = record { version = 1; subjects = 3; relations = 1; attributes = 3; nodes = 0; grants = 3; steps = 0; user = 0; pairs = 0 };
+      header = record { version = 1; subjects = 3; relations = 1; attributes = 3; nodes = 0; grants = 3; steps = 0; user = 0; pairs = 0; day = 0 };
       relations = record { owner = 0; set = these (0 ∷ 1 ∷ 2 ∷ []) } ∷ [];
       grants =
-          record { relation = 0; subject = 0; clear = these (0 ∷ 1 ∷ []); sealed = 0 }
-          ∷ record { relation = 0; subject = 1; clear = these (0 ∷ []); sealed = these (1 ∷ []) }
-          ∷ record { relation = 0; subject = 2; clear = 0; sealed = these (0 ∷ 1 ∷ []) }
+          record { relation = 0; subject = 0; first = 0; last = 65535; clear = these (0 ∷ 1 ∷ []); sealed = 0 }
+          ∷ record { relation = 0; subject = 1; first = 0; last = 65535; clear = these (0 ∷ []); sealed = these (1 ∷ []) }
+          ∷ record { relation = 0; subject = 2; first = 0; last = 65535; clear = 0; sealed = these (0 ∷ 1 ∷ []) }
           ∷ [];
       nodes = [];
       pairs = [];
@@ -94,20 +94,20 @@ threeViews =
 abbrev pub fiveViews : Night
 fiveViews =
     record {
-      header = record { version = 1; subjects = 5; relations = 2; attributes = 41; nodes = 5; grants = 11; steps = 0; user = 0; pairs = 0 };
+      header = record { version = 1; subjects = 5; relations = 2; attributes = 41; nodes = 5; grants = 11; steps = 0; user = 0; pairs = 0; day = 0 };
       relations = record { owner = 0; set = these (0 ∷ 1 ∷ []) } ∷ record { owner = 0; set = these (40 ∷ []) } ∷ [];
       grants =
-          record { relation = 0; subject = 0; clear = these (0 ∷ 1 ∷ []); sealed = 0 }
-          ∷ record { relation = 1; subject = 0; clear = these (40 ∷ []); sealed = 0 }
-          ∷ record { relation = 0; subject = 1; clear = these (0 ∷ []); sealed = these (1 ∷ []) }
-          ∷ record { relation = 1; subject = 1; clear = 0; sealed = these (40 ∷ []) }
-          ∷ record { relation = 0; subject = 2; clear = 0; sealed = these (0 ∷ 1 ∷ []) }
-          ∷ record { relation = 1; subject = 2; clear = 0; sealed = these (40 ∷ []) }
-          ∷ record { relation = 0; subject = 3; clear = these (0 ∷ 1 ∷ []); sealed = 0 }
-          ∷ record { relation = 1; subject = 3; clear = 0; sealed = these (40 ∷ []) }
-          ∷ record { relation = 0; subject = 4; clear = 0; sealed = 0 }
-          ∷ record { relation = 0; subject = 255; clear = these (0 ∷ 1 ∷ []); sealed = 0 }
-          ∷ record { relation = 1; subject = 255; clear = these (40 ∷ []); sealed = 0 }
+          record { relation = 0; subject = 0; first = 0; last = 65535; clear = these (0 ∷ 1 ∷ []); sealed = 0 }
+          ∷ record { relation = 1; subject = 0; first = 0; last = 65535; clear = these (40 ∷ []); sealed = 0 }
+          ∷ record { relation = 0; subject = 1; first = 0; last = 65535; clear = these (0 ∷ []); sealed = these (1 ∷ []) }
+          ∷ record { relation = 1; subject = 1; first = 0; last = 65535; clear = 0; sealed = these (40 ∷ []) }
+          ∷ record { relation = 0; subject = 2; first = 0; last = 65535; clear = 0; sealed = these (0 ∷ 1 ∷ []) }
+          ∷ record { relation = 1; subject = 2; first = 0; last = 65535; clear = 0; sealed = these (40 ∷ []) }
+          ∷ record { relation = 0; subject = 3; first = 0; last = 65535; clear = these (0 ∷ 1 ∷ []); sealed = 0 }
+          ∷ record { relation = 1; subject = 3; first = 0; last = 65535; clear = 0; sealed = these (40 ∷ []) }
+          ∷ record { relation = 0; subject = 4; first = 0; last = 65535; clear = 0; sealed = 0 }
+          ∷ record { relation = 0; subject = 255; first = 0; last = 65535; clear = these (0 ∷ 1 ∷ []); sealed = 0 }
+          ∷ record { relation = 1; subject = 255; first = 0; last = 65535; clear = these (40 ∷ []); sealed = 0 }
           ∷ [];
       nodes =
           aNode 0 255 255 0 255 (these (0 ∷ 1 ∷ [])) 0

@@ -13,9 +13,9 @@ use Rattle.model.specs.Plan.{sealings, built, planRoom, keysRoom}
 abbrev pub evenNight : Night
 evenNight =
     record {
-      header = record { version = 1; subjects = 3; relations = 1; attributes = 1; nodes = 3; grants = 1; steps = 12; user = 0; pairs = 0 };
+      header = record { version = 1; subjects = 3; relations = 1; attributes = 1; nodes = 3; grants = 1; steps = 12; user = 0; pairs = 0; day = 0 };
       relations = record { owner = 0; set = 1 } ∷ [];
-      grants = record { relation = 0; subject = 255; clear = 1; sealed = 0 } ∷ [];
+      grants = record { relation = 0; subject = 255; first = 0; last = 65535; clear = 1; sealed = 0 } ∷ [];
       nodes =
           record { kind = 0; left = 255; right = 255; x = 0; y = 255; spare1 = 0; spare2 = 0; spare3 = 0; set = 1; needed = 0; size = 2; first = 0; count = 0 }
           ∷ record { kind = 2; left = 0; right = 255; x = 0; y = 255; spare1 = 0; spare2 = 0; spare3 = 0; set = 0; needed = 0; size = 3; first = 0; count = 0 }

@@ -22,7 +22,7 @@ aNode kind left right x y set needed =
 abbrev pub nodesOf : ℕ → List Node → Night
 nodesOf n nodes =
     record {
-      header = record { version = 1; subjects = 1; relations = 2; attributes = 6; nodes = n; grants = 0; steps = 0; user = 0; pairs = 0 };
+      header = record { version = 1; subjects = 1; relations = 2; attributes = 6; nodes = n; grants = 0; steps = 0; user = 0; pairs = 0; day = 0 };
       relations = [];
       grants = [];
       nodes = nodes;
@@ -65,7 +65,7 @@ aJoinOn first count needed =
 abbrev pub joinsOn : ℕ → ℕ → ℕ → Night
 joinsOn first count needed =
     record {
-      header = record { version = 3; subjects = 1; relations = 2; attributes = 6; nodes = 3; grants = 0; steps = 0; user = 0; pairs = 3 };
+      header = record { version = 3; subjects = 1; relations = 2; attributes = 6; nodes = 3; grants = 0; steps = 0; user = 0; pairs = 3; day = 0 };
       relations = [];
       grants = [];
       nodes =

@@ -5,3 +5,5 @@ pub mod Night
 pub mod Kinds
 pub mod Views
 pub mod Promised
+pub mod Days
+pub mod ByDay

@@ -18,12 +18,12 @@ pub record Night : Type 0 where
   pub stepPrices : List (List ℕ)
   pub linkPrices : List (List ℕ)
 
--- what stands past the end of a list of records: no relation, no grant that lets see anything, a leaf of nothing, attribute 0 twice
+-- what stands past the end of a list of records: no relation, a grant of nothing, a leaf of nothing, attribute 0 twice
 abbrev pub noRelation : Relation
 noRelation = record { owner = 0; set = 0 }
 
 abbrev pub noGrant : Grant
-noGrant = record { relation = 0; subject = 0; clear = 0; sealed = 0 }
+noGrant = record { relation = 0; subject = 0; first = 0; last = 0; clear = 0; sealed = 0 }
 
 abbrev pub noNode : Node
 noNode = record { kind = 0; left = 0; right = 0; x = 0; y = 0; spare1 = 0; spare2 = 0; spare3 = 0; set = 0; needed = 0; size = 0; first = 0; count = 0 }

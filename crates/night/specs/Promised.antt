@@ -1,5 +1,5 @@
 -- What reading promises of the night of an accepted file. Planning uses this and nothing else of reading. That the kind is one of the version's, that
--- unused fields and spare bytes, the pairs named, version and length are as they must be is checked too, and left out here, since no proof rests on it.
+-- unused fields and spare bytes, the pairs named, version and length are as they must be, and that no grant ends before it begins, is checked too, and left out here, since no proof rests on it.
 use Prim.Native.Nat.{ℕ, _+_, _<_, _≤_}
 use mathlib.Core.Path.{_≡_}
 use mathlib.Core.Bool.{true}
@@ -9,7 +9,7 @@ use Rattle.sets.specs.Sets.{In, Within, Apart}
 use Rattle.night.specs.Versions.{delivers}
 use Rattle.night.specs.Night.{Night, relationOf, grantOf, nodeOf, stepPrice, linkPrice}
 use Rattle.night.specs.Kinds.{usesLeft, usesRight, usesX, usesSet, usesPairs, itsPair, reads, readTogether, visible, isChild}
-use Rattle.night.specs.Views.{anySubject, viewOf}
+use Rattle.night.specs.Views.{anySubject, sharesDay, viewOf}
 
 -- of each set, all is needed or none
 abbrev pub AllOrNone : ℕ → List ℕ → Type 0
@@ -30,22 +30,22 @@ pub record SoundCounts (N : Night) : Type 0 where
   pub grants-most : N .header .grants ≤ 272
   pub user-there : delivers (N .header .version) ≡ true → N .header .user < N .header .subjects
 
--- relation i has an owner, who sees all of it in clear, and attributes below a that no earlier relation has
+-- relation i has an owner, and attributes below a that no earlier relation has
 pub record SoundRelation (N : Night) (i : ℕ) : Type 0 where
   pub owner-there : relationOf N i .owner < N .header .subjects
   pub some : relationOf N i .set ≡ 0 → ⊥
   pub below-a : (k : ℕ) → In k (relationOf N i .set) → k < N .header .attributes
   pub apart-before : (j : ℕ) → j < i → Apart (relationOf N i .set) (relationOf N j .set)
-  pub owner-clear : Within (relationOf N i .set) (viewOf N (relationOf N i .owner) i .clear)
 
--- grant i is on a relation, to a subject or to any, with disjoint sets within the relation; no earlier grant is for the same pair
+-- grant i is on a relation, to a subject or to any, with disjoint sets within the relation; no earlier grant for the same pair shares a day with it
 pub record SoundGrant (N : Night) (i : ℕ) : Type 0 where
   pub relation-there : grantOf N i .relation < N .header .relations
   pub subject-there : (grantOf N i .subject < N .header .subjects) ⊎ (grantOf N i .subject ≡ anySubject)
   pub sets-apart : Apart (grantOf N i .clear) (grantOf N i .sealed)
   pub clear-within : Within (grantOf N i .clear) (relationOf N (grantOf N i .relation) .set)
   pub sealed-within : Within (grantOf N i .sealed) (relationOf N (grantOf N i .relation) .set)
-  pub once : (j : ℕ) → j < i → grantOf N j .relation ≡ grantOf N i .relation → grantOf N j .subject ≡ grantOf N i .subject → ⊥
+  pub once : (j : ℕ) → j < i → grantOf N j .relation ≡ grantOf N i .relation → grantOf N j .subject ≡ grantOf N i .subject
+      → sharesDay (grantOf N j) (grantOf N i .first) (grantOf N i .last) ≡ true → ⊥
 
 -- node i has lower and different children that no earlier node has, and what it uses is visible in its operand
 pub record SoundNode (N : Night) (i : ℕ) : Type 0 where
@@ -71,7 +71,11 @@ pub record SoundNode (N : Night) (i : ℕ) : Type 0 where
   pub needed-read : Within (nodeOf N i .needed) (reads N (nodeOf N i))
   pub needed-together : AllOrNone (nodeOf N i .needed) (readTogether N (nodeOf N i))
 
--- the facts of an accepted file
+-- every owner sees all of its relation in clear, on the night's day
+abbrev pub OwnersSee : Night → Type 0
+OwnersSee N = (i : ℕ) → i < N .header .relations → Within (relationOf N i .set) (viewOf N (relationOf N i .owner) i .clear)
+
+-- the facts of an accepted file that hold whatever the day
 pub record Promised (N : Night) : Type 0 where
   pub counts : SoundCounts N
   pub relation : (i : ℕ) → i < N .header .relations → SoundRelation N i

@@ -2,7 +2,8 @@
 // reading hands out; and what each version of the file has.
 pub mod versions;
 
-// The header's values. In a version without a user, `user` is 0 and nothing looks at it; so with `pairs` in a version without pairs.
+// The header's values. In a version without a user, `user` is 0 and nothing looks at it; so with `pairs` in a version without pairs. In a version
+// without days, `day` is 0, and every grant is in force on it.
 #[repr(C)]
 pub struct Header {
     pub version: u16,
@@ -14,6 +15,7 @@ pub struct Header {
     pub steps: u32,
     pub user: u8,
     pub pairs: u8,
+    pub day: u16,
 }
 
 // A relation: its owner and its attributes.
@@ -23,11 +25,14 @@ pub struct Relation {
     pub set: u64,
 }
 
-// A grant on a relation to a subject, or to any (255): the attributes in clear, and those sealed.
+// A grant on a relation to a subject, or to any (255), in force from its first to its last day, both included: the attributes in clear, and those
+// sealed. In a version without days these are 0 and 65535.
 #[repr(C)]
 pub struct Grant {
     pub relation: u8,
     pub subject: u8,
+    pub first: u16,
+    pub last: u16,
     pub clear: u64,
     pub sealed: u64,
 }

@@ -1,7 +1,7 @@
 // What each version of the file has. A version keeps all earlier additions; nothing else compares version numbers.
 ghost use mathlib.Core.Path.{_≡_};
 ghost use Prim.Native.Nat.{_*_, _<_, _≤_};
-ghost use Rattle.night.specs.Versions.{known, delivers, hasPairs, headerLength, nodeLength, lastKind};
+ghost use Rattle.night.specs.Versions.{known, delivers, hasPairs, hasDays, headerLength, grantLength, nodeLength, lastKind};
 
 // Whether files of this version are read.
 pub fn known(version: u16) -> bool
@@ -14,6 +14,9 @@ pub fn known(version: u16) -> bool
         return true;
     }
     if version == 3 {
+        return true;
+    }
+    if version == 4 {
         return true;
     }
     false
@@ -39,10 +42,23 @@ pub fn has_pairs(version: u16) -> bool
     false
 }
 
+// Whether grants have days, and the night one.
+pub fn has_days(version: u16) -> bool
+    ensures { λ r. ⌜ r ≡ hasDays version ⌝ }
+{
+    if 3 < version {
+        return true;
+    }
+    false
+}
+
 // The length of the header.
 pub fn header_length(version: u16) -> usize
-    ensures { λ r. ⌜ (r ≡ headerLength version) × (r ≤ 17) ⌝ }
+    ensures { λ r. ⌜ (r ≡ headerLength version) × (r ≤ 19) ⌝ }
 {
+    if has_days(version) {
+        return 19;
+    }
     if has_pairs(version) {
         return 17;
     }
@@ -50,6 +66,17 @@ pub fn header_length(version: u16) -> usize
         return 16;
     }
     15
+}
+
+// The length of so many grants.
+pub fn grants_length(version: u16, n: u16) -> usize
+    ensures { λ r. ⌜ (r ≡ grantLength version * n) × (r < 1_500_000) ⌝ }
+{
+    let many = n as usize;
+    if has_days(version) {
+        return 22 * many;
+    }
+    18 * many
 }
 
 // The length of so many nodes.
@@ -79,6 +106,7 @@ pub const NODE_START: usize = 28;
 // Lengths of the other records.
 pub const RELATION_LENGTH: usize = 9;
 
-pub const GRANT_LENGTH: usize = 18;
+// The length of what every version has of a grant: all but its days.
+pub const GRANT_START: usize = 18;
 
 pub const PAIR_LENGTH: usize = 2;

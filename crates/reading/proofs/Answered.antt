@@ -1,8 +1,11 @@
 -- What the answers of `check` and `grant_records` leave no choice in.
-use Prim.Native.Nat.{ℕ, _-_, _≤_, min}
+use Prim.Native.Nat.{ℕ, _-_, _*_, _≤_, min}
 use mathlib.Core.Path.{_≡_, refl, sym, ap, _∙_}
 use mathlib.Core.List.{List, []}
+use native.Mathlib.Nat.{mul-le-mul}
 use native.Mathlib.Omega.{arith}
+use Rattle.night.specs.Versions.{grantLength}
+use Rattle.format.proofs.Written.{grant-least}
 use lib.ListN.{length, take, drop, length-take, length-drop}
 use Rattle.laws.specs.Trials.{Says, answers, refuses}
 use Rattle.night.specs.declared.Header.{Header}
@@ -28,7 +31,8 @@ unfolding nightIn nodesFrom
 part-some s h e empty =
     let some : 1 ≤ h .grants = rw (accepted-header s h e) at (accepted-promises s h e .counts .grants-some) in
     let long : min (nodesFrom h - grantsFrom h) (length s - grantsFrom h) ≡ 0 = sym (simp (length-take, length-drop)) ∙ ap length empty in
-    omega (arith, accepted-length s h e, nodes-within h)
+    let records : 1 * 1 ≤ grantLength (h .version) * h .grants = mul-le-mul {n₁ = 1} {m₁ = 1} {n₂ = grantLength (h .version)} {m₂ = h .grants} (omega (arith, grant-least (h .version))) some in
+    omega (arith, accepted-length s h e, nodes-within h, records)
 
 pub empty-when-refused : EmptyWhenRefused
 empty-when-refused s = go (checkOf s) refl

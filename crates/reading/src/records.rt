@@ -59,12 +59,12 @@ pub(crate) fn left_tried(file: &[u8], h: Header) -> Tried
     tried(records::left_over(h, taken_before(file, h, n)), 5, n)
 }
 
-// 6: whether an earlier grant is for the same pair of relation and subject.
+// 6: whether an earlier grant for the same pair of relation and subject shares a day with it.
 fn pair_seen(file: &[u8], h: Header, i: usize) -> bool
     ensures { λ r. ⌜ r ≡ pairSeen (nightIn (now (file .entry)) h) i ⌝ }
 {
     let g = values::grant(file, h, i);
-    views::first_grant(file, h, g.relation, g.subject, i) < i
+    views::first_grant(file, h, g.relation, g.subject, g.first, g.last, i) < i
 }
 
 // 6: grant i, by itself and beside the earlier ones.
@@ -87,6 +87,6 @@ pub(crate) fn owner_tried(file: &[u8], h: Header, i: usize) -> Tried
     ensures { λ r. ⌜ triedOf r ≡ verdict (trialsOf (nightIn (now (file .entry)) h) Owners i) tt ⌝ }
 {
     let v = values::relation(file, h, i);
-    let view = views::view(file, h, v.owner, i as u8);
+    let view = views::view(file, h, h.day, v.owner, i as u8);
     tried(records::owner_bad(v, view.clear), 7, i)
 }

@@ -94,6 +94,9 @@ pub fn grant_bad(h: Header, set: u64, v: Grant) -> bool
     if h.relations <= v.relation {
         return true;
     }
+    if v.last < v.first {
+        return true;
+    }
     if !subject_there(h, v.subject) {
         return true;
     }

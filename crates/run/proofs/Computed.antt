@@ -11,12 +11,12 @@ use Rattle.sets.specs.Sets.{bit, member, union, meet, minus, apart, single, uni
 use Rattle.night.specs.Night.{grantOf, nodeOf, pairOf}
 use Rattle.night.specs.Versions.{delivers}
 use Rattle.night.specs.Kinds.{usesLeft, usesRight, itsPair, bothOf, pairsRead, reads, readTogether, visibleAfter, visibleStep, visibles}
-use Rattle.night.specs.Views.{isFor, grantFor, viewOf, clearOf, sealedOf}
+use Rattle.night.specs.Views.{isFor, sharesDay, isForOn, grantOn, viewOn, clearOn, sealedOn, clearOf, sealedOf}
 use Rattle.run.specs.Linked.{one, step}
 use Rattle.run.specs.Keys.{events, everSealed, groupOf, keyName, holdersOf, keyHolders}
 use Rattle.run.specs.Run.{clear, sealed, testedBy, tiedBy, Tested, Tied, spreadOver, spread, spreadTimes, reached, keyOf, holders, leaving, openedBy, together, leafHeld, resultOver, arriving, heldStep, helds, resultOf, leftArrives, rightArrives, leftOpened, rightOpened, arrived, opened, delivered, received, sealedIn, deliveries, allEvents, seals-unclear, opens-unsealed, opens-unheld, needs-unclear, mixes, clear-column, clear-test, sealed-column, sealed-test, tied-apart, left-arrives, right-arrives, left-opened, right-opened, result-made, user-takes, user-opens, user-unheld}
 use Rattle.run.proofs.Forms.{absent-clear, absent-sealed, sealed-clear, same-sealed}
-use Rattle.run.specs.Runs.{seenIn, seenOn, plan, Runs}
+use Rattle.run.specs.Runs.{seenIn, seenOn, seenTo, plan, Runs}
 
 no : _≡_ {A = ℕ} 0 1 → ⊥
 no e = omega arith
@@ -34,7 +34,7 @@ one-key : {k : ℕ} → sealed 0 ≡ sealed k → sealed 64 ≡ sealed k → ⊥
 one-key e f = let z : _≡_ {A = ℕ} 0 64 = same-sealed (e ∙ sym f) in omega arith
 
 pub runs : Runs
-unfolding anyOf first upwards bit member union meet minus apart single unions lowest grantOf nodeOf pairOf usesLeft usesRight itsPair bothOf pairsRead reads readTogether visibleAfter visibleStep visibles isFor grantFor viewOf clearOf sealedOf events everSealed groupOf keyName holdersOf keyHolders testedBy tiedBy Tested Tied spreadOver spread spreadTimes reached keyOf holders leaving openedBy together leafHeld resultOver arriving heldStep helds resultOf leftArrives rightArrives leftOpened rightOpened arrived opened delivers delivered received sealedIn deliveries allEvents seenIn seenOn plan trailingZeros
+unfolding anyOf first upwards bit member union meet minus apart single unions lowest grantOf nodeOf pairOf usesLeft usesRight itsPair bothOf pairsRead reads readTogether visibleAfter visibleStep visibles isFor sharesDay isForOn grantOn viewOn clearOn sealedOn events everSealed groupOf keyName holdersOf keyHolders testedBy tiedBy Tested Tied spreadOver spread spreadTimes reached keyOf holders leaving openedBy together leafHeld resultOver arriving heldStep helds resultOf leftArrives rightArrives leftOpened rightOpened arrived opened delivers delivered received sealedIn deliveries allEvents seenIn seenOn seenTo plan trailingZeros
 runs =
     record {
       seals-twice = λ c. c .free 1 (omega arith) (seals-unclear 0 refl sealed-clear);
@@ -54,6 +54,7 @@ runs =
       sealed-left = λ c. c .allowed 1 (omega arith) (left-arrives refl (sealed-column 0 0 refl no no));
       clear-right = λ c. c .allowed 2 (omega arith) (right-arrives refl (clear-column 0 refl no));
       sealed-right = λ c. c .allowed 2 (omega arith) (right-arrives refl (sealed-column 0 0 refl no no));
+      day-over = λ c. c .allowed 1 (omega arith) (left-arrives refl (clear-column 0 refl no));
       opened-left = λ c. c .allowed 1 (omega arith) (left-opened refl (clear-column 0 refl no));
       opened-right = λ c. c .allowed 2 (omega arith) (right-opened refl (clear-column 0 refl no));
       select-clear = λ c. c .allowed 3 (omega arith) (left-arrives refl (clear-test 0 (inl (refl, refl)) no));
@@ -79,6 +80,7 @@ runs =
       user-opens-own = λ c. c .delivery refl (user-opens (clear-column 0 refl no));
       user-leaf-clear = λ c. c .delivery refl (user-opens (clear-column 0 refl no));
       user-takes = user-takes (sealed-column 0 0 refl no no);
+      user-day-over = user-takes (clear-column 0 refl no);
       user-holds = refl;
       user-holds-last = refl;
       user-holds-own = refl;

@@ -15,7 +15,7 @@ use Rattle.sets.proofs.Members.{bit-beyond, out-member, in-none}
 use Rattle.night.specs.Night.{Night, grantOf, nodeOf}
 use Rattle.night.specs.Versions.{delivers}
 use Rattle.night.specs.Kinds.{usesLeft, usesRight, reads, readTogether, visibleAfter, visibleStep, visibles}
-use Rattle.night.specs.Views.{isFor, grantFor, viewOf, clearOf, sealedOf}
+use Rattle.night.specs.Views.{isFor, sharesDay, isForOn, grantOn, viewOn, clearOn, sealedOn, clearOf, sealedOf}
 use Rattle.run.specs.Linked.{Chain, one, step}
 use Rattle.run.specs.Keys.{Plan, events, everSealed, groupOf, keyName, holdersOf, keyHolders}
 use Rattle.run.specs.Run.{Form, absent, clear, sealed, Held, sealedUnder, unsealed, testedBy, tiedBy, Tested, Tied, spreadOver, spread, spreadTimes, reached, keyOf, holders, leaving, openedBy, together, leafHeld, resultOver, arriving, heldStep, helds, resultOf, leftArrives, rightArrives, leftOpened, rightOpened, arrived, opened, delivered, received, sealedIn, deliveries, allEvents, Stuck, seals-unclear, opens-unsealed, opens-unheld, needs-unclear, mixes, Forbidden, clear-column, clear-test, sealed-column, sealed-test, tied-apart, ForbiddenAt, left-arrives, right-arrives, left-opened, right-opened, result-made, ForbidsUser, DeliveryFails, user-takes, user-opens, user-unheld, Clean}
@@ -53,7 +53,7 @@ module _ (version user : ℕ) (opens seals : List ℕ) where
   stays false = refl
 
   arrives-none : (a : ℕ) → leftArrives N p 1 .column (suc (suc a)) ≡ absent
-  unfolding anyOf first upwards union meet minus apart single unions lowest grantOf nodeOf usesLeft usesRight reads readTogether visibleAfter visibleStep visibles isFor grantFor viewOf clearOf sealedOf events everSealed groupOf keyName holdersOf keyHolders testedBy tiedBy Tested Tied spreadOver spread spreadTimes reached keyOf holders leaving openedBy together leafHeld resultOver arriving heldStep helds resultOf leftArrives rightArrives leftOpened rightOpened arrived opened delivers delivered received sealedIn deliveries allEvents seenIn plan trailingZeros
+  unfolding anyOf first upwards union meet minus apart single unions lowest grantOf nodeOf usesLeft usesRight reads readTogether visibleAfter visibleStep visibles isFor sharesDay isForOn grantOn viewOn clearOn sealedOn events everSealed groupOf keyName holdersOf keyHolders testedBy tiedBy Tested Tied spreadOver spread spreadTimes reached keyOf holders leaving openedBy together leafHeld resultOver arriving heldStep helds resultOf leftArrives rightArrives leftOpened rightOpened arrived opened delivers delivered received sealedIn deliveries allEvents seenIn plan trailingZeros
   arrives-none a = rw (out-member 3 (suc (suc a)) (low 3 a (omega arith))) (closed (member (getD seals 0 0) (suc (suc a))) (keyOf N p (suc (suc a))))
 
   opened-none : (a : ℕ) → leftOpened N p 1 .column (suc (suc a)) ≡ absent
@@ -61,13 +61,13 @@ module _ (version user : ℕ) (opens seals : List ℕ) where
   opened-none a = rw (arrives-none a) (stays (member (p .opens 1) (suc (suc a))))
 
   result-none : (a : ℕ) → resultOf N p 1 .column (suc (suc a)) ≡ absent
-  unfolding anyOf first upwards union meet minus apart single unions lowest grantOf nodeOf usesLeft usesRight reads readTogether visibleAfter visibleStep visibles isFor grantFor viewOf clearOf sealedOf events everSealed groupOf keyName holdersOf keyHolders testedBy tiedBy Tested Tied spreadOver spread spreadTimes reached keyOf holders leaving openedBy together leafHeld resultOver arriving heldStep helds resultOf leftArrives rightArrives leftOpened rightOpened arrived opened delivers delivered received sealedIn deliveries allEvents seenIn plan trailingZeros
+  unfolding anyOf first upwards union meet minus apart single unions lowest grantOf nodeOf usesLeft usesRight reads readTogether visibleAfter visibleStep visibles isFor sharesDay isForOn grantOn viewOn clearOn sealedOn events everSealed groupOf keyName holdersOf keyHolders testedBy tiedBy Tested Tied spreadOver spread spreadTimes reached keyOf holders leaving openedBy together leafHeld resultOver arriving heldStep helds resultOf leftArrives rightArrives leftOpened rightOpened arrived opened delivers delivered received sealedIn deliveries allEvents seenIn plan trailingZeros
   result-none a = rw (out-member 3 (suc (suc a)) (low 3 a (omega arith))) refl
 
   -- nothing is tested or tied, so none is forbidden to a subject that sees both in clear
   allowed : (t : Held) → ((a : ℕ) → t .column (suc (suc a)) ≡ absent) → ((a : ℕ) (form : Form) → Tested N (t .past) a form → ⊥)
       → ((m : ℕ) → Tied N (t .past) m → ⊥) → Forbidden N t 3 0 → ⊥
-  unfolding anyOf first upwards bit member union meet minus apart single unions lowest grantOf nodeOf usesLeft usesRight reads readTogether visibleAfter visibleStep visibles isFor grantFor viewOf clearOf sealedOf events everSealed groupOf keyName holdersOf keyHolders testedBy tiedBy Tested Tied spreadOver spread spreadTimes reached keyOf holders leaving openedBy together leafHeld resultOver arriving heldStep helds resultOf leftArrives rightArrives leftOpened rightOpened arrived opened delivers delivered received sealedIn deliveries allEvents seenIn plan trailingZeros
+  unfolding anyOf first upwards bit member union meet minus apart single unions lowest grantOf nodeOf usesLeft usesRight reads readTogether visibleAfter visibleStep visibles isFor sharesDay isForOn grantOn viewOn clearOn sealedOn events everSealed groupOf keyName holdersOf keyHolders testedBy tiedBy Tested Tied spreadOver spread spreadTimes reached keyOf holders leaving openedBy together leafHeld resultOver arriving heldStep helds resultOf leftArrives rightArrives leftOpened rightOpened arrived opened delivers delivered received sealedIn deliveries allEvents seenIn plan trailingZeros
   allowed t none untested untied (clear-column zero e out) = out refl
   allowed t none untested untied (clear-column (suc zero) e out) = out refl
   allowed t none untested untied (clear-column (suc (suc a)) e out) = absent-clear (sym (none a) ∙ e)
@@ -83,7 +83,7 @@ module _ (version user : ℕ) (opens seals : List ℕ) where
       unlinked (step c r h l) = untied _ r
 
   two-allowed : (i : ℕ) → i < 2 → ForbiddenAt N p i → ⊥
-  unfolding anyOf first upwards bit member union meet minus apart single unions lowest grantOf nodeOf usesLeft usesRight reads readTogether visibleAfter visibleStep visibles isFor grantFor viewOf clearOf sealedOf events everSealed groupOf keyName holdersOf keyHolders testedBy tiedBy Tested Tied spreadOver spread spreadTimes reached keyOf holders leaving openedBy together leafHeld resultOver arriving heldStep helds resultOf leftArrives rightArrives leftOpened rightOpened arrived opened delivers delivered received sealedIn deliveries allEvents seenIn plan trailingZeros
+  unfolding anyOf first upwards bit member union meet minus apart single unions lowest grantOf nodeOf usesLeft usesRight reads readTogether visibleAfter visibleStep visibles isFor sharesDay isForOn grantOn viewOn clearOn sealedOn events everSealed groupOf keyName holdersOf keyHolders testedBy tiedBy Tested Tied spreadOver spread spreadTimes reached keyOf holders leaving openedBy together leafHeld resultOver arriving heldStep helds resultOf leftArrives rightArrives leftOpened rightOpened arrived opened delivers delivered received sealedIn deliveries allEvents seenIn plan trailingZeros
   two-allowed zero l (left-arrives u f) = false-true u
   two-allowed zero l (right-arrives u f) = false-true u
   two-allowed zero l (left-opened u f) = false-true u
@@ -109,7 +109,7 @@ module _ (version user : ℕ) (opens seals : List ℕ) where
 
 -- what nothing is sealed or opened by is not stuck: the leaf, and the project
 idle-leaf : (version user : ℕ) (seals : List ℕ) → getD seals 0 0 ≡ 0 → Stuck (seenIn version user 1 3 0 two) (plan (0 ∷ 1 ∷ []) [] seals) 0 → ⊥
-unfolding anyOf first upwards bit member union meet minus apart single unions lowest grantOf nodeOf usesLeft usesRight reads readTogether visibleAfter visibleStep visibles isFor grantFor viewOf clearOf sealedOf events everSealed groupOf keyName holdersOf keyHolders testedBy tiedBy Tested Tied spreadOver spread spreadTimes reached keyOf holders leaving openedBy together leafHeld resultOver arriving heldStep helds resultOf leftArrives rightArrives leftOpened rightOpened arrived opened delivers delivered received sealedIn deliveries allEvents seenIn plan trailingZeros
+unfolding anyOf first upwards bit member union meet minus apart single unions lowest grantOf nodeOf usesLeft usesRight reads readTogether visibleAfter visibleStep visibles isFor sharesDay isForOn grantOn viewOn clearOn sealedOn events everSealed groupOf keyName holdersOf keyHolders testedBy tiedBy Tested Tied spreadOver spread spreadTimes reached keyOf holders leaving openedBy together leafHeld resultOver arriving heldStep helds resultOf leftArrives rightArrives leftOpened rightOpened arrived opened delivers delivered received sealedIn deliveries allEvents seenIn plan trailingZeros
 idle-leaf version user seals e (seals-unclear a h u) = in-none a (rw e at h)
 idle-leaf version user seals e (opens-unsealed a h u) = in-none a h
 idle-leaf version user seals e (opens-unheld a key h q u) = in-none a h
@@ -117,7 +117,7 @@ idle-leaf version user seals e (needs-unclear a h u) = in-none a h
 idle-leaf version user seals e (mixes m q u v) = absurd q
 
 idle : (version user : ℕ) → Stuck (seenIn version user 1 3 0 two) (plan (0 ∷ 1 ∷ []) [] []) 1 → ⊥
-unfolding anyOf first upwards bit member union meet minus apart single unions lowest grantOf nodeOf usesLeft usesRight reads readTogether visibleAfter visibleStep visibles isFor grantFor viewOf clearOf sealedOf events everSealed groupOf keyName holdersOf keyHolders testedBy tiedBy Tested Tied spreadOver spread spreadTimes reached keyOf holders leaving openedBy together leafHeld resultOver arriving heldStep helds resultOf leftArrives rightArrives leftOpened rightOpened arrived opened delivers delivered received sealedIn deliveries allEvents seenIn plan trailingZeros
+unfolding anyOf first upwards bit member union meet minus apart single unions lowest grantOf nodeOf usesLeft usesRight reads readTogether visibleAfter visibleStep visibles isFor sharesDay isForOn grantOn viewOn clearOn sealedOn events everSealed groupOf keyName holdersOf keyHolders testedBy tiedBy Tested Tied spreadOver spread spreadTimes reached keyOf holders leaving openedBy together leafHeld resultOver arriving heldStep helds resultOf leftArrives rightArrives leftOpened rightOpened arrived opened delivers delivered received sealedIn deliveries allEvents seenIn plan trailingZeros
 idle version user (seals-unclear a h u) = in-none a h
 idle version user (opens-unsealed a h u) = in-none a h
 idle version user (opens-unheld a key h e u) = in-none a h
@@ -126,7 +126,7 @@ idle version user (mixes m q u v) = absurd q
 
 -- the root seals both
 seals-both : (version user : ℕ) → Stuck (seenIn version user 1 3 0 two) (plan (0 ∷ 1 ∷ []) [] (0 ∷ 3 ∷ [])) 1 → ⊥
-unfolding anyOf first upwards bit member union meet minus apart single unions lowest grantOf nodeOf usesLeft usesRight reads readTogether visibleAfter visibleStep visibles isFor grantFor viewOf clearOf sealedOf events everSealed groupOf keyName holdersOf keyHolders testedBy tiedBy Tested Tied spreadOver spread spreadTimes reached keyOf holders leaving openedBy together leafHeld resultOver arriving heldStep helds resultOf leftArrives rightArrives leftOpened rightOpened arrived opened delivers delivered received sealedIn deliveries allEvents seenIn plan trailingZeros
+unfolding anyOf first upwards bit member union meet minus apart single unions lowest grantOf nodeOf usesLeft usesRight reads readTogether visibleAfter visibleStep visibles isFor sharesDay isForOn grantOn viewOn clearOn sealedOn events everSealed groupOf keyName holdersOf keyHolders testedBy tiedBy Tested Tied spreadOver spread spreadTimes reached keyOf holders leaving openedBy together leafHeld resultOver arriving heldStep helds resultOf leftArrives rightArrives leftOpened rightOpened arrived opened delivers delivered received sealedIn deliveries allEvents seenIn plan trailingZeros
 seals-both version user (seals-unclear zero h u) = u refl
 seals-both version user (seals-unclear (suc zero) h u) = u refl
 seals-both version user (seals-unclear (suc (suc a)) h u) = low 3 a (omega arith) h
@@ -137,7 +137,7 @@ seals-both version user (mixes m q u v) = absurd q
 
 -- the leaf seals both, and the project opens them
 leaf-seals : Stuck (seen 3 0 two) (plan (0 ∷ 1 ∷ []) (0 ∷ 3 ∷ []) (3 ∷ [])) 0 → ⊥
-unfolding anyOf first upwards bit member union meet minus apart single unions lowest grantOf nodeOf usesLeft usesRight reads readTogether visibleAfter visibleStep visibles isFor grantFor viewOf clearOf sealedOf events everSealed groupOf keyName holdersOf keyHolders testedBy tiedBy Tested Tied spreadOver spread spreadTimes reached keyOf holders leaving openedBy together leafHeld resultOver arriving heldStep helds resultOf leftArrives rightArrives leftOpened rightOpened arrived opened delivers delivered received sealedIn deliveries allEvents seenIn plan trailingZeros
+unfolding anyOf first upwards bit member union meet minus apart single unions lowest grantOf nodeOf usesLeft usesRight reads readTogether visibleAfter visibleStep visibles isFor sharesDay isForOn grantOn viewOn clearOn sealedOn events everSealed groupOf keyName holdersOf keyHolders testedBy tiedBy Tested Tied spreadOver spread spreadTimes reached keyOf holders leaving openedBy together leafHeld resultOver arriving heldStep helds resultOf leftArrives rightArrives leftOpened rightOpened arrived opened delivers delivered received sealedIn deliveries allEvents seenIn plan trailingZeros
 leaf-seals (seals-unclear zero h u) = u refl
 leaf-seals (seals-unclear (suc zero) h u) = u refl
 leaf-seals (seals-unclear (suc (suc a)) h u) = low 3 a (omega arith) h
@@ -147,7 +147,7 @@ leaf-seals (needs-unclear a h u) = in-none a h
 leaf-seals (mixes m q u v) = absurd q
 
 opens-both : Stuck (seen 3 0 two) (plan (0 ∷ 1 ∷ []) (0 ∷ 3 ∷ []) (3 ∷ [])) 1 → ⊥
-unfolding anyOf first upwards bit member union meet minus apart single unions lowest grantOf nodeOf usesLeft usesRight reads readTogether visibleAfter visibleStep visibles isFor grantFor viewOf clearOf sealedOf events everSealed groupOf keyName holdersOf keyHolders testedBy tiedBy Tested Tied spreadOver spread spreadTimes reached keyOf holders leaving openedBy together leafHeld resultOver arriving heldStep helds resultOf leftArrives rightArrives leftOpened rightOpened arrived opened delivers delivered received sealedIn deliveries allEvents seenIn plan trailingZeros
+unfolding anyOf first upwards bit member union meet minus apart single unions lowest grantOf nodeOf usesLeft usesRight reads readTogether visibleAfter visibleStep visibles isFor sharesDay isForOn grantOn viewOn clearOn sealedOn events everSealed groupOf keyName holdersOf keyHolders testedBy tiedBy Tested Tied spreadOver spread spreadTimes reached keyOf holders leaving openedBy together leafHeld resultOver arriving heldStep helds resultOf leftArrives rightArrives leftOpened rightOpened arrived opened delivers delivered received sealedIn deliveries allEvents seenIn plan trailingZeros
 opens-both (seals-unclear a h u) = in-none a h
 opens-both (opens-unsealed zero h u) = u 0 refl
 opens-both (opens-unsealed (suc zero) h u) = u 1 refl
@@ -160,7 +160,7 @@ opens-both (mixes m q u v) = absurd q
 
 -- a step needs attribute 0, which arrives clear
 needs-clear : Stuck (seen 3 0 (leaf 0 3 ∷ select 0 0 1 ∷ [])) (plan (0 ∷ 1 ∷ []) [] []) 1 → ⊥
-unfolding anyOf first upwards bit member union meet minus apart single unions lowest grantOf nodeOf usesLeft usesRight reads readTogether visibleAfter visibleStep visibles isFor grantFor viewOf clearOf sealedOf events everSealed groupOf keyName holdersOf keyHolders testedBy tiedBy Tested Tied spreadOver spread spreadTimes reached keyOf holders leaving openedBy together leafHeld resultOver arriving heldStep helds resultOf leftArrives rightArrives leftOpened rightOpened arrived opened delivers delivered received sealedIn deliveries allEvents seenIn plan trailingZeros
+unfolding anyOf first upwards bit member union meet minus apart single unions lowest grantOf nodeOf usesLeft usesRight reads readTogether visibleAfter visibleStep visibles isFor sharesDay isForOn grantOn viewOn clearOn sealedOn events everSealed groupOf keyName holdersOf keyHolders testedBy tiedBy Tested Tied spreadOver spread spreadTimes reached keyOf holders leaving openedBy together leafHeld resultOver arriving heldStep helds resultOf leftArrives rightArrives leftOpened rightOpened arrived opened delivers delivered received sealedIn deliveries allEvents seenIn plan trailingZeros
 needs-clear (seals-unclear a h u) = in-none a h
 needs-clear (opens-unsealed a h u) = in-none a h
 needs-clear (opens-unheld a key h e u) = in-none a h
@@ -171,7 +171,7 @@ needs-clear (mixes m q u v) = absurd q
 
 -- it opens attribute 0, so that both of what it reads together are clear
 opened-together : Stuck (seen 3 0 (leaf 0 3 ∷ compare 0 0 1 ∷ [])) (plan (0 ∷ 1 ∷ []) (0 ∷ 1 ∷ []) (1 ∷ [])) 1 → ⊥
-unfolding anyOf first upwards bit member union meet minus apart single unions lowest grantOf nodeOf usesLeft usesRight reads readTogether visibleAfter visibleStep visibles isFor grantFor viewOf clearOf sealedOf events everSealed groupOf keyName holdersOf keyHolders testedBy tiedBy Tested Tied spreadOver spread spreadTimes reached keyOf holders leaving openedBy together leafHeld resultOver arriving heldStep helds resultOf leftArrives rightArrives leftOpened rightOpened arrived opened delivers delivered received sealedIn deliveries allEvents seenIn plan trailingZeros
+unfolding anyOf first upwards bit member union meet minus apart single unions lowest grantOf nodeOf usesLeft usesRight reads readTogether visibleAfter visibleStep visibles isFor sharesDay isForOn grantOn viewOn clearOn sealedOn events everSealed groupOf keyName holdersOf keyHolders testedBy tiedBy Tested Tied spreadOver spread spreadTimes reached keyOf holders leaving openedBy together leafHeld resultOver arriving heldStep helds resultOf leftArrives rightArrives leftOpened rightOpened arrived opened delivers delivered received sealedIn deliveries allEvents seenIn plan trailingZeros
 opened-together (seals-unclear a h u) = in-none a h
 opened-together (opens-unsealed zero h u) = u 0 refl
 opened-together (opens-unsealed (suc zero) h u) = no h
@@ -189,7 +189,7 @@ opened-together (mixes m (inl q) u v) = u (λ a h. both a (rw q at h))
 opened-together (mixes m (inr q) u v) = q
 
 leaf-unasked : ForbiddenAt (seen 0 0 two) (plan (1 ∷ 0 ∷ []) [] []) 0 → ⊥
-unfolding anyOf first upwards bit member union meet minus apart single unions lowest grantOf nodeOf usesLeft usesRight reads readTogether visibleAfter visibleStep visibles isFor grantFor viewOf clearOf sealedOf events everSealed groupOf keyName holdersOf keyHolders testedBy tiedBy Tested Tied spreadOver spread spreadTimes reached keyOf holders leaving openedBy together leafHeld resultOver arriving heldStep helds resultOf leftArrives rightArrives leftOpened rightOpened arrived opened delivers delivered received sealedIn deliveries allEvents seenIn plan trailingZeros
+unfolding anyOf first upwards bit member union meet minus apart single unions lowest grantOf nodeOf usesLeft usesRight reads readTogether visibleAfter visibleStep visibles isFor sharesDay isForOn grantOn viewOn clearOn sealedOn events everSealed groupOf keyName holdersOf keyHolders testedBy tiedBy Tested Tied spreadOver spread spreadTimes reached keyOf holders leaving openedBy together leafHeld resultOver arriving heldStep helds resultOf leftArrives rightArrives leftOpened rightOpened arrived opened delivers delivered received sealedIn deliveries allEvents seenIn plan trailingZeros
 leaf-unasked (left-arrives u f) = false-true u
 leaf-unasked (right-arrives u f) = false-true u
 leaf-unasked (left-opened u f) = false-true u
@@ -204,18 +204,18 @@ abbrev handed : Held
 handed = leftArrives (seen 2 1 (handsOn (select 0 0 0))) tested 3
 
 others : (a : ℕ) → handed .column (suc (suc a)) ≡ absent
-unfolding anyOf first upwards union meet minus apart single unions lowest grantOf nodeOf usesLeft usesRight reads readTogether visibleAfter visibleStep visibles isFor grantFor viewOf clearOf sealedOf events everSealed groupOf keyName holdersOf keyHolders testedBy tiedBy Tested Tied spreadOver spread spreadTimes reached keyOf holders leaving openedBy together leafHeld resultOver arriving heldStep helds resultOf leftArrives rightArrives leftOpened rightOpened arrived opened delivers delivered received sealedIn deliveries allEvents seenIn plan trailingZeros
+unfolding anyOf first upwards union meet minus apart single unions lowest grantOf nodeOf usesLeft usesRight reads readTogether visibleAfter visibleStep visibles isFor sharesDay isForOn grantOn viewOn clearOn sealedOn events everSealed groupOf keyName holdersOf keyHolders testedBy tiedBy Tested Tied spreadOver spread spreadTimes reached keyOf holders leaving openedBy together leafHeld resultOver arriving heldStep helds resultOf leftArrives rightArrives leftOpened rightOpened arrived opened delivers delivered received sealedIn deliveries allEvents seenIn plan trailingZeros
 others a = rw (out-member 0 (suc (suc a)) (in-none (suc (suc a))), out-member 2 (suc (suc a)) (low 2 a (omega arith))) refl
 
 untied : (a b : ℕ) → Chain (Tied (seen 2 1 (handsOn (select 0 0 0))) (handed .past)) a b → ⊥
-unfolding anyOf first upwards bit member union meet minus apart single unions lowest grantOf nodeOf usesLeft usesRight reads readTogether visibleAfter visibleStep visibles isFor grantFor viewOf clearOf sealedOf events everSealed groupOf keyName holdersOf keyHolders testedBy tiedBy Tested Tied spreadOver spread spreadTimes reached keyOf holders leaving openedBy together leafHeld resultOver arriving heldStep helds resultOf leftArrives rightArrives leftOpened rightOpened arrived opened delivers delivered received sealedIn deliveries allEvents seenIn plan trailingZeros
+unfolding anyOf first upwards bit member union meet minus apart single unions lowest grantOf nodeOf usesLeft usesRight reads readTogether visibleAfter visibleStep visibles isFor sharesDay isForOn grantOn viewOn clearOn sealedOn events everSealed groupOf keyName holdersOf keyHolders testedBy tiedBy Tested Tied spreadOver spread spreadTimes reached keyOf holders leaving openedBy together leafHeld resultOver arriving heldStep helds resultOf leftArrives rightArrives leftOpened rightOpened arrived opened delivers delivered received sealedIn deliveries allEvents seenIn plan trailingZeros
 untied a b (one (inl t) h k) = t
 untied a b (one (inr (inl t)) h k) = t
 untied a b (one (inr (inr t)) h k) = t
 untied a b (step c t h k) = untied a _ c
 
 seen-sealed : Forbidden (seen 2 1 (handsOn (select 0 0 0))) handed 2 1 → ⊥
-unfolding anyOf first upwards bit member union meet minus apart single unions lowest grantOf nodeOf usesLeft usesRight reads readTogether visibleAfter visibleStep visibles isFor grantFor viewOf clearOf sealedOf events everSealed groupOf keyName holdersOf keyHolders testedBy tiedBy Tested Tied spreadOver spread spreadTimes reached keyOf holders leaving openedBy together leafHeld resultOver arriving heldStep helds resultOf leftArrives rightArrives leftOpened rightOpened arrived opened delivers delivered received sealedIn deliveries allEvents seenIn plan trailingZeros
+unfolding anyOf first upwards bit member union meet minus apart single unions lowest grantOf nodeOf usesLeft usesRight reads readTogether visibleAfter visibleStep visibles isFor sharesDay isForOn grantOn viewOn clearOn sealedOn events everSealed groupOf keyName holdersOf keyHolders testedBy tiedBy Tested Tied spreadOver spread spreadTimes reached keyOf holders leaving openedBy together leafHeld resultOver arriving heldStep helds resultOf leftArrives rightArrives leftOpened rightOpened arrived opened delivers delivered received sealedIn deliveries allEvents seenIn plan trailingZeros
 seen-sealed (clear-column zero e out) = absent-clear e
 seen-sealed (clear-column (suc zero) e out) = out refl
 seen-sealed (clear-column (suc (suc a)) e out) = absent-clear (sym (others a) ∙ e)
@@ -252,7 +252,7 @@ unfolding received
 received-none a = rw (delivered-none a) refl
 
 user-fine : DeliveryFails (userSees 3 0 two) handedOver → ⊥
-unfolding anyOf first upwards bit member union meet minus apart single unions lowest grantOf nodeOf usesLeft usesRight reads readTogether visibleAfter visibleStep visibles isFor grantFor viewOf clearOf sealedOf events everSealed groupOf keyName holdersOf keyHolders testedBy tiedBy Tested Tied spreadOver spread spreadTimes reached keyOf holders leaving openedBy together leafHeld resultOver arriving heldStep helds resultOf leftArrives rightArrives leftOpened rightOpened arrived opened delivers delivered received sealedIn deliveries allEvents seenIn plan trailingZeros
+unfolding anyOf first upwards bit member union meet minus apart single unions lowest grantOf nodeOf usesLeft usesRight reads readTogether visibleAfter visibleStep visibles isFor sharesDay isForOn grantOn viewOn clearOn sealedOn events everSealed groupOf keyName holdersOf keyHolders testedBy tiedBy Tested Tied spreadOver spread spreadTimes reached keyOf holders leaving openedBy together leafHeld resultOver arriving heldStep helds resultOf leftArrives rightArrives leftOpened rightOpened arrived opened delivers delivered received sealedIn deliveries allEvents seenIn plan trailingZeros
 user-fine (user-takes f) = allowed 2 1 [] (0 ∷ 3 ∷ []) (delivered (userSees 3 0 two) handedOver) delivered-none (λ a form t. ⊎-elim (λ h. in-none a (h .0)) (λ x. x) t) (λ m t. ⊎-elim (λ h. h) (λ x. x) t) f
 user-fine (user-opens f) = allowed 2 1 [] (0 ∷ 3 ∷ []) (received (userSees 3 0 two) handedOver) received-none (λ a form t. ⊎-elim (λ h. in-none a (h .0)) (λ x. x) t) (λ m t. ⊎-elim (λ h. h) (λ x. x) t) f
 user-fine (user-unheld zero key e u) = u (rw (← same-sealed e) refl)
@@ -264,17 +264,17 @@ abbrev handedSealed : Held
 handedSealed = delivered (userSees 2 1 two) (plan [] [] (1 ∷ []))
 
 others-handed : (a : ℕ) → handedSealed .column (suc (suc a)) ≡ absent
-unfolding anyOf first upwards union meet minus apart single unions lowest grantOf nodeOf usesLeft usesRight reads readTogether visibleAfter visibleStep visibles isFor grantFor viewOf clearOf sealedOf events everSealed groupOf keyName holdersOf keyHolders testedBy tiedBy Tested Tied spreadOver spread spreadTimes reached keyOf holders leaving openedBy together leafHeld resultOver arriving heldStep helds resultOf leftArrives rightArrives leftOpened rightOpened arrived opened delivers delivered received sealedIn deliveries allEvents seenIn plan trailingZeros
+unfolding anyOf first upwards union meet minus apart single unions lowest grantOf nodeOf usesLeft usesRight reads readTogether visibleAfter visibleStep visibles isFor sharesDay isForOn grantOn viewOn clearOn sealedOn events everSealed groupOf keyName holdersOf keyHolders testedBy tiedBy Tested Tied spreadOver spread spreadTimes reached keyOf holders leaving openedBy together leafHeld resultOver arriving heldStep helds resultOf leftArrives rightArrives leftOpened rightOpened arrived opened delivers delivered received sealedIn deliveries allEvents seenIn plan trailingZeros
 others-handed a = rw (out-member 0 (suc (suc a)) (in-none (suc (suc a))), out-member 3 (suc (suc a)) (low 3 a (omega arith))) refl
 
 untied-handed : (a b : ℕ) → Chain (Tied (userSees 2 1 two) (handedSealed .past)) a b → ⊥
-unfolding anyOf first upwards bit member union meet minus apart single unions lowest grantOf nodeOf usesLeft usesRight reads readTogether visibleAfter visibleStep visibles isFor grantFor viewOf clearOf sealedOf events everSealed groupOf keyName holdersOf keyHolders testedBy tiedBy Tested Tied spreadOver spread spreadTimes reached keyOf holders leaving openedBy together leafHeld resultOver arriving heldStep helds resultOf leftArrives rightArrives leftOpened rightOpened arrived opened delivers delivered received sealedIn deliveries allEvents seenIn plan trailingZeros
+unfolding anyOf first upwards bit member union meet minus apart single unions lowest grantOf nodeOf usesLeft usesRight reads readTogether visibleAfter visibleStep visibles isFor sharesDay isForOn grantOn viewOn clearOn sealedOn events everSealed groupOf keyName holdersOf keyHolders testedBy tiedBy Tested Tied spreadOver spread spreadTimes reached keyOf holders leaving openedBy together leafHeld resultOver arriving heldStep helds resultOf leftArrives rightArrives leftOpened rightOpened arrived opened delivers delivered received sealedIn deliveries allEvents seenIn plan trailingZeros
 untied-handed a b (one (inl t) h k) = t
 untied-handed a b (one (inr t) h k) = t
 untied-handed a b (step c t h k) = untied-handed a _ c
 
 user-sees-sealed : ForbidsUser (userSees 2 1 two) handedSealed → ⊥
-unfolding anyOf first upwards bit member union meet minus apart single unions lowest grantOf nodeOf usesLeft usesRight reads readTogether visibleAfter visibleStep visibles isFor grantFor viewOf clearOf sealedOf events everSealed groupOf keyName holdersOf keyHolders testedBy tiedBy Tested Tied spreadOver spread spreadTimes reached keyOf holders leaving openedBy together leafHeld resultOver arriving heldStep helds resultOf leftArrives rightArrives leftOpened rightOpened arrived opened delivers delivered received sealedIn deliveries allEvents seenIn plan trailingZeros
+unfolding anyOf first upwards bit member union meet minus apart single unions lowest grantOf nodeOf usesLeft usesRight reads readTogether visibleAfter visibleStep visibles isFor sharesDay isForOn grantOn viewOn clearOn sealedOn events everSealed groupOf keyName holdersOf keyHolders testedBy tiedBy Tested Tied spreadOver spread spreadTimes reached keyOf holders leaving openedBy together leafHeld resultOver arriving heldStep helds resultOf leftArrives rightArrives leftOpened rightOpened arrived opened delivers delivered received sealedIn deliveries allEvents seenIn plan trailingZeros
 user-sees-sealed (clear-column zero e out) = sealed-clear e
 user-sees-sealed (clear-column (suc zero) e out) = out refl
 user-sees-sealed (clear-column (suc (suc a)) e out) = absent-clear (sym (others-handed a) ∙ e)

@@ -14,7 +14,7 @@ use Rattle.sets.proofs.Members.{bit-beyond, out-member, in-none}
 use Rattle.night.specs.Night.{Night, grantOf, nodeOf, pairOf}
 use Rattle.night.specs.Versions.{delivers}
 use Rattle.night.specs.Kinds.{usesLeft, usesRight, itsPair, bothOf, pairsRead, reads, readTogether, visibleAfter, visibleStep, visibles}
-use Rattle.night.specs.Views.{isFor, grantFor, viewOf, clearOf, sealedOf}
+use Rattle.night.specs.Views.{isFor, sharesDay, isForOn, grantOn, viewOn, clearOn, sealedOn, clearOf, sealedOf}
 use Rattle.run.specs.Linked.{Chain, one, step}
 use Rattle.run.specs.Keys.{Plan, events, everSealed, groupOf, keyName, holdersOf, keyHolders}
 use Rattle.run.specs.Run.{Form, absent, clear, sealed, Held, testedBy, tiedBy, Tested, Tied, spreadOver, spread, spreadTimes, reached, keyOf, holders, leaving, openedBy, together, leafHeld, resultOver, arriving, heldStep, helds, resultOf, leftArrives, rightArrives, leftOpened, rightOpened, arrived, opened, delivered, received, sealedIn, deliveries, allEvents, Stuck, seals-unclear, opens-unsealed, opens-unheld, needs-unclear, mixes, Forbidden, clear-column, clear-test, sealed-column, sealed-test, tied-apart, ForbiddenAt, left-arrives, right-arrives, left-opened, right-opened, result-made, DeliveryFails, user-takes, user-opens, user-unheld, Clean}
@@ -79,11 +79,11 @@ p = plan (0 ∷ 0 ∷ 1 ∷ []) [] (2 ∷ 8 ∷ [])
 
 -- no table has other columns
 others-left : (a : ℕ) → leftArrives N p 2 .column (suc (suc (suc (suc a)))) ≡ absent
-unfolding anyOf first upwards union meet minus apart single unions lowest grantOf nodeOf pairOf usesLeft usesRight itsPair bothOf pairsRead reads readTogether visibleAfter visibleStep visibles isFor grantFor viewOf clearOf sealedOf events everSealed groupOf keyName holdersOf keyHolders testedBy tiedBy Tested Tied spreadOver spread spreadTimes reached keyOf holders leaving openedBy together leafHeld resultOver arriving heldStep helds resultOf leftArrives rightArrives leftOpened rightOpened arrived opened delivers delivered received sealedIn deliveries allEvents seenIn seenOn plan trailingZeros
+unfolding anyOf first upwards union meet minus apart single unions lowest grantOf nodeOf pairOf usesLeft usesRight itsPair bothOf pairsRead reads readTogether visibleAfter visibleStep visibles isFor sharesDay isForOn grantOn viewOn clearOn sealedOn events everSealed groupOf keyName holdersOf keyHolders testedBy tiedBy Tested Tied spreadOver spread spreadTimes reached keyOf holders leaving openedBy together leafHeld resultOver arriving heldStep helds resultOf leftArrives rightArrives leftOpened rightOpened arrived opened delivers delivered received sealedIn deliveries allEvents seenIn seenOn plan trailingZeros
 others-left a = rw (out-member 2 (suc (suc (suc (suc a)))) (low 2 a (omega arith)), out-member 3 (suc (suc (suc (suc a)))) (low 3 a (omega arith))) refl
 
 others-right : (a : ℕ) → rightArrives N p 2 .column (suc (suc (suc (suc a)))) ≡ absent
-unfolding anyOf first upwards union meet minus apart single unions lowest grantOf nodeOf pairOf usesLeft usesRight itsPair bothOf pairsRead reads readTogether visibleAfter visibleStep visibles isFor grantFor viewOf clearOf sealedOf events everSealed groupOf keyName holdersOf keyHolders testedBy tiedBy Tested Tied spreadOver spread spreadTimes reached keyOf holders leaving openedBy together leafHeld resultOver arriving heldStep helds resultOf leftArrives rightArrives leftOpened rightOpened arrived opened delivers delivered received sealedIn deliveries allEvents seenIn seenOn plan trailingZeros
+unfolding anyOf first upwards union meet minus apart single unions lowest grantOf nodeOf pairOf usesLeft usesRight itsPair bothOf pairsRead reads readTogether visibleAfter visibleStep visibles isFor sharesDay isForOn grantOn viewOn clearOn sealedOn events everSealed groupOf keyName holdersOf keyHolders testedBy tiedBy Tested Tied spreadOver spread spreadTimes reached keyOf holders leaving openedBy together leafHeld resultOver arriving heldStep helds resultOf leftArrives rightArrives leftOpened rightOpened arrived opened delivers delivered received sealedIn deliveries allEvents seenIn seenOn plan trailingZeros
 others-right a = rw (out-member 8 (suc (suc (suc (suc a)))) (low 8 a (omega arith)), out-member 12 (suc (suc (suc (suc a)))) (low 12 a (omega arith))) refl
 
 others-opened : (a : ℕ) → (leftOpened N p 2 .column (suc (suc (suc (suc a)))) ≡ absent) × (rightOpened N p 2 .column (suc (suc (suc (suc a)))) ≡ absent)
@@ -91,7 +91,7 @@ unfolding leftOpened rightOpened openedBy plan
 others-opened a = (rw (out-member 0 (suc (suc (suc (suc a)))) (in-none _)) (others-left a), rw (out-member 0 (suc (suc (suc (suc a)))) (in-none _)) (others-right a))
 
 others-result : (a : ℕ) → resultOf N p 2 .column (suc (suc (suc (suc a)))) ≡ absent
-unfolding anyOf first upwards union meet minus apart single unions lowest grantOf nodeOf pairOf usesLeft usesRight itsPair bothOf pairsRead reads readTogether visibleAfter visibleStep visibles isFor grantFor viewOf clearOf sealedOf events everSealed groupOf keyName holdersOf keyHolders testedBy tiedBy Tested Tied spreadOver spread spreadTimes reached keyOf holders leaving openedBy together leafHeld resultOver arriving heldStep helds resultOf leftArrives rightArrives leftOpened rightOpened arrived opened delivers delivered received sealedIn deliveries allEvents seenIn seenOn plan trailingZeros
+unfolding anyOf first upwards union meet minus apart single unions lowest grantOf nodeOf pairOf usesLeft usesRight itsPair bothOf pairsRead reads readTogether visibleAfter visibleStep visibles isFor sharesDay isForOn grantOn viewOn clearOn sealedOn events everSealed groupOf keyName holdersOf keyHolders testedBy tiedBy Tested Tied spreadOver spread spreadTimes reached keyOf holders leaving openedBy together leafHeld resultOver arriving heldStep helds resultOf leftArrives rightArrives leftOpened rightOpened arrived opened delivers delivered received sealedIn deliveries allEvents seenIn seenOn plan trailingZeros
 others-result a = rw (out-member 15 (suc (suc (suc (suc a)))) (low 15 a (omega arith))) refl
 
 others-delivered : (a : ℕ) → delivered N p .column (suc (suc (suc (suc a)))) ≡ absent
@@ -118,7 +118,7 @@ columns P E t w x y z none (suc (suc (suc (suc a)))) = rw (none a) tt
 
 -- so the join's tables are allowed, and the user's
 pairs-allowed : (i : ℕ) → i < 3 → ForbiddenAt N p i → ⊥
-unfolding anyOf first upwards bit member union meet minus apart single unions lowest grantOf nodeOf pairOf usesLeft usesRight itsPair bothOf pairsRead reads readTogether visibleAfter visibleStep visibles isFor grantFor viewOf clearOf sealedOf events everSealed groupOf keyName holdersOf keyHolders testedBy tiedBy Tested Tied spreadOver spread spreadTimes reached keyOf holders leaving openedBy together leafHeld resultOver arriving heldStep helds resultOf leftArrives rightArrives leftOpened rightOpened arrived opened delivers delivered received sealedIn deliveries allEvents seenIn seenOn plan trailingZeros
+unfolding anyOf first upwards bit member union meet minus apart single unions lowest grantOf nodeOf pairOf usesLeft usesRight itsPair bothOf pairsRead reads readTogether visibleAfter visibleStep visibles isFor sharesDay isForOn grantOn viewOn clearOn sealedOn events everSealed groupOf keyName holdersOf keyHolders testedBy tiedBy Tested Tied spreadOver spread spreadTimes reached keyOf holders leaving openedBy together leafHeld resultOver arriving heldStep helds resultOf leftArrives rightArrives leftOpened rightOpened arrived opened delivers delivered received sealedIn deliveries allEvents seenIn seenOn plan trailingZeros
 pairs-allowed zero l (left-arrives u f) = false-true u
 pairs-allowed zero l (right-arrives u f) = false-true u
 pairs-allowed zero l (left-opened u f) = false-true u
@@ -143,7 +143,7 @@ pairs-allowed (suc (suc zero)) l (result-made s f) =
 pairs-allowed (suc (suc (suc i))) l h = absurd (omega arith)
 
 pairs-delivered : DeliveryFails N p → ⊥
-unfolding anyOf first upwards bit member union meet minus apart single unions lowest grantOf nodeOf pairOf usesLeft usesRight itsPair bothOf pairsRead reads readTogether visibleAfter visibleStep visibles isFor grantFor viewOf clearOf sealedOf events everSealed groupOf keyName holdersOf keyHolders testedBy tiedBy Tested Tied spreadOver spread spreadTimes reached keyOf holders leaving openedBy together leafHeld resultOver arriving heldStep helds resultOf leftArrives rightArrives leftOpened rightOpened arrived opened delivers delivered received sealedIn deliveries allEvents seenIn seenOn plan trailingZeros
+unfolding anyOf first upwards bit member union meet minus apart single unions lowest grantOf nodeOf pairOf usesLeft usesRight itsPair bothOf pairsRead reads readTogether visibleAfter visibleStep visibles isFor sharesDay isForOn grantOn viewOn clearOn sealedOn events everSealed groupOf keyName holdersOf keyHolders testedBy tiedBy Tested Tied spreadOver spread spreadTimes reached keyOf holders leaving openedBy together leafHeld resultOver arriving heldStep helds resultOf leftArrives rightArrives leftOpened rightOpened arrived opened delivers delivered received sealedIn deliveries allEvents seenIn seenOn plan trailingZeros
 pairs-delivered (user-takes f) =
     allowed N (delivered N p) 15 0 (columns 15 0 (delivered N p) refl (inl refl) refl (inl refl) others-delivered) (λ a form t. ⊎-elim (λ h. in-none a (h .0)) (λ x. x) t)
     (λ m t. ⊎-elim (⊎-elim inl (⊎-elim inr (λ x. absurd x))) (λ x. absurd x) t) (inl (all-clear 5 (omega arith))) (inl (all-clear 10 (omega arith))) f
@@ -175,7 +175,7 @@ ten t form e f (suc (suc (suc (suc a)))) h = absurd (low 10 a (omega arith) h)
 
 -- and nobody is stuck
 pairs-free : (i : ℕ) → i < 3 → Stuck N p i → ⊥
-unfolding anyOf first upwards bit member union meet minus apart single unions lowest grantOf nodeOf pairOf usesLeft usesRight itsPair bothOf pairsRead reads readTogether visibleAfter visibleStep visibles isFor grantFor viewOf clearOf sealedOf events everSealed groupOf keyName holdersOf keyHolders testedBy tiedBy Tested Tied spreadOver spread spreadTimes reached keyOf holders leaving openedBy together leafHeld resultOver arriving heldStep helds resultOf leftArrives rightArrives leftOpened rightOpened arrived opened delivers delivered received sealedIn deliveries allEvents seenIn seenOn plan trailingZeros
+unfolding anyOf first upwards bit member union meet minus apart single unions lowest grantOf nodeOf pairOf usesLeft usesRight itsPair bothOf pairsRead reads readTogether visibleAfter visibleStep visibles isFor sharesDay isForOn grantOn viewOn clearOn sealedOn events everSealed groupOf keyName holdersOf keyHolders testedBy tiedBy Tested Tied spreadOver spread spreadTimes reached keyOf holders leaving openedBy together leafHeld resultOver arriving heldStep helds resultOf leftArrives rightArrives leftOpened rightOpened arrived opened delivers delivered received sealedIn deliveries allEvents seenIn seenOn plan trailingZeros
 pairs-free zero l (seals-unclear zero h u) = no h
 pairs-free zero l (seals-unclear (suc zero) h u) = u refl
 pairs-free zero l (seals-unclear (suc (suc zero)) h u) = no h
@@ -209,7 +209,7 @@ pairs-clean = record { free = pairs-free; allowed = pairs-allowed; delivery = λ
 
 -- the first pair is needed and arrives clear
 pub needs-one-pair : Stuck (seenOn 15 0 apartPairs (pairsJoined 0 2 5)) p 2 → ⊥
-unfolding anyOf first upwards bit member union meet minus apart single unions lowest grantOf nodeOf pairOf usesLeft usesRight itsPair bothOf pairsRead reads readTogether visibleAfter visibleStep visibles isFor grantFor viewOf clearOf sealedOf events everSealed groupOf keyName holdersOf keyHolders testedBy tiedBy Tested Tied spreadOver spread spreadTimes reached keyOf holders leaving openedBy together leafHeld resultOver arriving heldStep helds resultOf leftArrives rightArrives leftOpened rightOpened arrived opened delivers delivered received sealedIn deliveries allEvents seenIn seenOn plan trailingZeros
+unfolding anyOf first upwards bit member union meet minus apart single unions lowest grantOf nodeOf pairOf usesLeft usesRight itsPair bothOf pairsRead reads readTogether visibleAfter visibleStep visibles isFor sharesDay isForOn grantOn viewOn clearOn sealedOn events everSealed groupOf keyName holdersOf keyHolders testedBy tiedBy Tested Tied spreadOver spread spreadTimes reached keyOf holders leaving openedBy together leafHeld resultOver arriving heldStep helds resultOf leftArrives rightArrives leftOpened rightOpened arrived opened delivers delivered received sealedIn deliveries allEvents seenIn seenOn plan trailingZeros
 needs-one-pair (seals-unclear a h u) = in-none a h
 needs-one-pair (opens-unsealed a h u) = in-none a h
 needs-one-pair (opens-unheld a key h e u) = in-none a h
@@ -220,7 +220,7 @@ needs-one-pair (mixes m (inr (inr q)) u v) = q
 
 -- a pair that the node does not name may be mixed
 pub pair-past : Stuck (seenOn 15 0 apartPairs (pairsJoined 0 1 0)) (plan (0 ∷ 0 ∷ 1 ∷ []) [] (2 ∷ [])) 2 → ⊥
-unfolding anyOf first upwards bit member union meet minus apart single unions lowest grantOf nodeOf pairOf usesLeft usesRight itsPair bothOf pairsRead reads readTogether visibleAfter visibleStep visibles isFor grantFor viewOf clearOf sealedOf events everSealed groupOf keyName holdersOf keyHolders testedBy tiedBy Tested Tied spreadOver spread spreadTimes reached keyOf holders leaving openedBy together leafHeld resultOver arriving heldStep helds resultOf leftArrives rightArrives leftOpened rightOpened arrived opened delivers delivered received sealedIn deliveries allEvents seenIn seenOn plan trailingZeros
+unfolding anyOf first upwards bit member union meet minus apart single unions lowest grantOf nodeOf pairOf usesLeft usesRight itsPair bothOf pairsRead reads readTogether visibleAfter visibleStep visibles isFor sharesDay isForOn grantOn viewOn clearOn sealedOn events everSealed groupOf keyName holdersOf keyHolders testedBy tiedBy Tested Tied spreadOver spread spreadTimes reached keyOf holders leaving openedBy together leafHeld resultOver arriving heldStep helds resultOf leftArrives rightArrives leftOpened rightOpened arrived opened delivers delivered received sealedIn deliveries allEvents seenIn seenOn plan trailingZeros
 pair-past (seals-unclear a h u) = in-none a h
 pair-past (opens-unsealed a h u) = in-none a h
 pair-past (opens-unheld a key h e u) = in-none a h
@@ -229,7 +229,7 @@ pair-past (mixes m (inl q) u v) = u (λ a h. five (opened (seenOn 15 0 apartPair
 pair-past (mixes m (inr q) u v) = q
 
 pub pair-before : Stuck (seenOn 15 0 apartPairs (pairsJoined 1 1 0)) (plan (0 ∷ 0 ∷ 1 ∷ []) [] (1 ∷ [])) 2 → ⊥
-unfolding anyOf first upwards bit member union meet minus apart single unions lowest grantOf nodeOf pairOf usesLeft usesRight itsPair bothOf pairsRead reads readTogether visibleAfter visibleStep visibles isFor grantFor viewOf clearOf sealedOf events everSealed groupOf keyName holdersOf keyHolders testedBy tiedBy Tested Tied spreadOver spread spreadTimes reached keyOf holders leaving openedBy together leafHeld resultOver arriving heldStep helds resultOf leftArrives rightArrives leftOpened rightOpened arrived opened delivers delivered received sealedIn deliveries allEvents seenIn seenOn plan trailingZeros
+unfolding anyOf first upwards bit member union meet minus apart single unions lowest grantOf nodeOf pairOf usesLeft usesRight itsPair bothOf pairsRead reads readTogether visibleAfter visibleStep visibles isFor sharesDay isForOn grantOn viewOn clearOn sealedOn events everSealed groupOf keyName holdersOf keyHolders testedBy tiedBy Tested Tied spreadOver spread spreadTimes reached keyOf holders leaving openedBy together leafHeld resultOver arriving heldStep helds resultOf leftArrives rightArrives leftOpened rightOpened arrived opened delivers delivered received sealedIn deliveries allEvents seenIn seenOn plan trailingZeros
 pair-before (seals-unclear a h u) = in-none a h
 pair-before (opens-unsealed a h u) = in-none a h
 pair-before (opens-unheld a key h e u) = in-none a h

@@ -52,13 +52,13 @@ joinOn first count needed =
 unfoldable pub seenIn : ℕ → ℕ → ℕ → ℕ → ℕ → List Node → Night
 seenIn version user other P E nodes =
     record {
-      header = record { version = version; subjects = 2; relations = 2; attributes = 4; nodes = length nodes; grants = 4; steps = 0; user = user; pairs = 0 };
+      header = record { version = version; subjects = 2; relations = 2; attributes = 4; nodes = length nodes; grants = 4; steps = 0; user = user; pairs = 0; day = 0 };
       relations = record { owner = 0; set = 3 } ∷ record { owner = 0; set = 12 } ∷ [];
       grants =
-          record { relation = 0; subject = 0; clear = 3; sealed = 0 }
-          ∷ record { relation = 1; subject = 0; clear = 12; sealed = 0 }
-          ∷ record { relation = 0; subject = other; clear = meet P 3; sealed = meet E 3 }
-          ∷ record { relation = 1; subject = other; clear = minus P 3; sealed = minus E 3 }
+          record { relation = 0; subject = 0; first = 0; last = 65535; clear = 3; sealed = 0 }
+          ∷ record { relation = 1; subject = 0; first = 0; last = 65535; clear = 12; sealed = 0 }
+          ∷ record { relation = 0; subject = other; first = 0; last = 65535; clear = meet P 3; sealed = meet E 3 }
+          ∷ record { relation = 1; subject = other; first = 0; last = 65535; clear = minus P 3; sealed = minus E 3 }
           ∷ [];
       nodes = nodes;
       pairs = [];
@@ -82,11 +82,28 @@ userSees P E nodes = seenIn 2 1 1 P E nodes
 unfoldable pub seenOn : ℕ → ℕ → List Pair → List Node → Night
 seenOn P E pairs nodes =
     record {
-      header = record { version = 3; subjects = 2; relations = 2; attributes = 4; nodes = length nodes; grants = 4; steps = 0; user = 0; pairs = length pairs };
+      header = record { version = 3; subjects = 2; relations = 2; attributes = 4; nodes = length nodes; grants = 4; steps = 0; user = 0; pairs = length pairs; day = 0 };
       relations = seenIn 3 0 1 P E nodes .relations;
       grants = seenIn 3 0 1 P E nodes .grants;
       nodes = nodes;
       pairs = pairs;
+      stepPrices = [];
+      linkPrices = [];
+    }
+
+-- in version 4, on a day, with a user: subject 1 sees {0, 1} in clear to day 9, and then nothing
+unfoldable pub seenTo : ℕ → ℕ → List Node → Night
+seenTo day user nodes =
+    record {
+      header = record { version = 4; subjects = 2; relations = 2; attributes = 4; nodes = length nodes; grants = 3; steps = 0; user = user; pairs = 0; day = day };
+      relations = seenIn 4 0 1 0 0 nodes .relations;
+      grants =
+          record { relation = 0; subject = 0; first = 0; last = 65535; clear = 3; sealed = 0 }
+          ∷ record { relation = 1; subject = 0; first = 0; last = 65535; clear = 12; sealed = 0 }
+          ∷ record { relation = 0; subject = 1; first = 0; last = 9; clear = 3; sealed = 0 }
+          ∷ [];
+      nodes = nodes;
+      pairs = [];
       stepPrices = [];
       linkPrices = [];
     }
@@ -174,6 +191,8 @@ pub record Runs : Type 0 where
   pub sealed-left : Unclean (seen 2 0 (leaf 0 3 ∷ project 0 2 ∷ [])) (plan (0 ∷ 1 ∷ []) [] (3 ∷ []))
   pub clear-right : Unclean (seen 4 1 (leaf 1 4 ∷ leaf 0 1 ∷ product 0 1 ∷ [])) (plan (0 ∷ 0 ∷ 1 ∷ []) [] [])
   pub sealed-right : Unclean (seen 4 0 (leaf 1 4 ∷ leaf 0 1 ∷ product 0 1 ∷ [])) (plan (0 ∷ 0 ∷ 1 ∷ []) [] (0 ∷ 1 ∷ []))
+  -- what subject 1 saw in clear to the day before the night's
+  pub day-over : Unclean (seenTo 10 0 two) (plan (0 ∷ 1 ∷ []) [] [])
   -- a step that needs nothing opens attribute 0, which its subject sees sealed: only the table after opening forbids, for it isn't in the result
   pub opened-left : Unclean (seen 2 1 (leaf 0 3 ∷ project 0 2 ∷ [])) (plan (0 ∷ 1 ∷ []) (0 ∷ 1 ∷ []) (3 ∷ []))
   -- the same on the right, where the result shows it too
@@ -212,6 +231,8 @@ pub record Runs : Type 0 where
   pub user-leaf-clear : Unclean (userSees 2 1 (leaf 0 3 ∷ [])) (plan [] [] [])
   -- on arrival: attribute 0 sealed, which the user doesn't see; it is forbidden after opening too, so no run tells the two apart
   pub user-takes : DeliveryFails (userSees 2 0 two) (plan [] [] (1 ∷ []))
+  -- in clear, which the user saw so to the day before
+  pub user-day-over : DeliveryFails (seenTo 10 1 two) (plan [] [] [])
   -- the user holds the key of attribute 0 where the leaf or the root sealed it, and where it ran the root itself; not where it arrives in clear, nor
   -- where nobody sealed it, nor in version 1
   pub user-holds : holders (userSees 3 0 two) (plan [] [] (1 ∷ [])) 0 ≡ 3

@@ -7,10 +7,10 @@ use Rattle.laws.specs.InOrder.{inOrder}
 use Rattle.laws.specs.Trials.{verdict, rows}
 use Rattle.laws.specs.Upwards.{upwards}
 use Rattle.sets.specs.Sets.{bit, member, union, meet, minus, within, apart, below, single, unions}
-use Rattle.night.specs.Versions.{known, delivers, hasPairs, lastKind, headerLength, nodeLength}
+use Rattle.night.specs.Versions.{known, delivers, hasPairs, lastKind, headerLength, nodeLength, hasDays, grantLength}
 use Rattle.night.specs.Night.{relationOf, grantOf, nodeOf, pairOf, stepPrice, linkPrice}
 use Rattle.night.specs.Kinds.{usesLeft, usesRight, usesX, usesY, usesSet, usesPairs, itsPair, bothOf, pairsRead, reads, readTogether, visibleAfter, visibleStep, visibles, isChild, taken}
-use Rattle.night.specs.Views.{isFor, grantFor, viewOf}
+use Rattle.night.specs.Views.{isFor, sharesDay, isForOn, grantOn, viewOn}
 use Rattle.trials.specs.Rules.{userBad, countsBad, relationBad, leftOver, subjectThere, grantBad, ownerBad, childBad, leftBad, rightBad, unusedBad, namesBad, shapeBad, leafBad, xBad, yBad, setBad, placeBad, stepBad, pairBad, pairsBad, half, neededBad, mostForStep, mostForLink}
 use Rattle.format.specs.Layout.{grantsFrom, nodesFrom, pairsFrom, pairsIn, stepPricesFrom, linkPricesFrom, fileLength, headerOf, relationAt, grantAt, nodeAt, pairAt, pricesAt, nightIn}
 use Rattle.trials.specs.Trials.{notMarked, notVersioned, headerTrials, takenBefore, pairSeen, isLeafOf, leafBefore, attributesBad, priceIn, mostIn, countIn, trialsOf, section, recordTrials, treeTrials, trials, checkOf}
@@ -18,7 +18,7 @@ use Rattle.trials.specs.Small.{small}
 use Rattle.trials.specs.Verdicts.{FileVerdicts}
 
 pub file-verdicts : FileVerdicts
-unfolding anyOf be first somewhere inOrder verdict rows upwards bit member union meet minus within apart below single unions known delivers hasPairs lastKind headerLength nodeLength relationOf grantOf nodeOf pairOf stepPrice linkPrice usesLeft usesRight usesX usesY usesSet usesPairs itsPair bothOf pairsRead reads readTogether visibleAfter visibleStep visibles isChild taken isFor grantFor viewOf userBad countsBad relationBad leftOver subjectThere grantBad ownerBad childBad leftBad rightBad unusedBad namesBad shapeBad leafBad xBad yBad setBad placeBad stepBad pairBad pairsBad half neededBad mostForStep mostForLink grantsFrom nodesFrom pairsFrom pairsIn stepPricesFrom linkPricesFrom fileLength headerOf relationAt grantAt nodeAt pairAt pricesAt nightIn notMarked notVersioned headerTrials takenBefore pairSeen isLeafOf leafBefore attributesBad priceIn mostIn countIn trialsOf section recordTrials treeTrials trials checkOf small
+unfolding anyOf be first somewhere inOrder verdict rows upwards bit member union meet minus within apart below single unions known delivers hasPairs lastKind headerLength nodeLength relationOf grantOf nodeOf pairOf stepPrice linkPrice usesLeft usesRight usesX usesY usesSet usesPairs itsPair bothOf pairsRead reads readTogether visibleAfter visibleStep visibles isChild taken isFor sharesDay isForOn grantOn viewOn userBad countsBad relationBad leftOver subjectThere grantBad ownerBad childBad leftBad rightBad unusedBad namesBad shapeBad leafBad xBad yBad setBad placeBad stepBad pairBad pairsBad half neededBad mostForStep mostForLink grantsFrom nodesFrom pairsFrom pairsIn stepPricesFrom linkPricesFrom fileLength headerOf relationAt grantAt nodeAt pairAt pricesAt nightIn notMarked notVersioned headerTrials takenBefore pairSeen isLeafOf leafBefore attributesBad priceIn mostIn countIn trialsOf section recordTrials treeTrials trials checkOf small hasDays grantLength
 file-verdicts =
     record {
       accepted = refl;
@@ -35,6 +35,13 @@ file-verdicts =
       pairs-most = refl;
       pairs-none = refl;
       pairs-unread = refl;
+      dated-accepted = refl;
+      dated-turned = refl;
+      dated-one = refl;
+      dated-first = refl;
+      dated-last = refl;
+      dated-any = refl;
+      day-unread = refl;
       mark-short = refl;
       mark-first = refl;
       mark-second = refl;
@@ -52,6 +59,8 @@ file-verdicts =
       user-before-counts = refl;
       pairs-short = refl;
       pairs-before-counts = refl;
+      day-short = refl;
+      day-before-counts = refl;
       subjects-none = refl;
       relations-many = refl;
       attributes-many = refl;
@@ -68,6 +77,7 @@ file-verdicts =
       length-more = refl;
       user-length-less = refl;
       paired-length-less = refl;
+      dated-length-less = refl;
       pairs-fewer = refl;
       pairs-more = refl;
       length-before-relations = refl;
@@ -80,19 +90,30 @@ file-verdicts =
       relations-before-left = refl;
       left-before-grants = refl;
       grant-relation = refl;
+      grant-relation-alone = refl;
       grant-subject = refl;
       grant-both = refl;
       grant-outside = refl;
+      grant-clear-outside = refl;
       pair-seen = refl;
       pair-any-seen = refl;
       pair-whatever = refl;
       bad-before-pair = refl;
       pair-before-next = refl;
+      days-turned = refl;
+      days-turned-high = refl;
+      day-shared = refl;
+      day-shared-turned = refl;
+      days-within = refl;
+      days-around = refl;
       grants-before-owners = refl;
       owner-blind = refl;
       owner-own = refl;
       owners-in-order = refl;
       owners-before-nodes = refl;
+      owner-early = refl;
+      owner-late = refl;
+      owner-much-later = refl;
       kind-unknown = refl;
       child-itself = refl;
       children-same = refl;

@@ -5,3 +5,4 @@ pub mod SoundNodes
 pub mod SoundPrices
 pub mod Opened
 pub mod Promises
+pub mod Days

@@ -3,3 +3,4 @@ pub mod Rules
 pub mod Trials
 pub mod Small
 pub mod Verdicts
+pub mod Days

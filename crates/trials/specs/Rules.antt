@@ -41,11 +41,12 @@ leftOver h takenByAll = not (eqb takenByAll (below 64 (h .attributes)))
 unfoldable pub subjectThere : Header → ℕ → Bool
 subjectThere h p = anyOf (ltb p (h .subjects) ∷ eqb p anySubject ∷ [])
 
--- 6: a grant's relation or subject is not there, or its sets are not disjoint or not within the relation
+-- 6: a grant's relation or subject is not there, its first day is after its last, or its sets are not disjoint or not within the relation
 unfoldable pub grantBad : Header → ℕ → Grant → Bool
 grantBad h relationSet v =
     anyOf
-    (not (ltb (v .relation) (h .relations)) ∷ not (subjectThere h (v .subject)) ∷ not (apart (v .clear) (v .sealed)) ∷ not (within (v .clear) relationSet)
+    (not (ltb (v .relation) (h .relations)) ∷ ltb (v .last) (v .first) ∷ not (subjectThere h (v .subject))
+    ∷ not (apart (v .clear) (v .sealed)) ∷ not (within (v .clear) relationSet)
     ∷ not (within (v .sealed) relationSet) ∷ [])
 
 -- 7: an owner's view of its own relation isn't all clear

@@ -101,3 +101,25 @@ namedTwice =
     ++ naming 0 1 (aNode 9 0 1 255 255 0 0) ++ naming 0 1 (aNode 9 3 2 255 255 0 0)
     ++ (0 ∷ 1 ∷ [])
     ++ replicate 24 0)
+
+-- of a grant in a version with days: its first and its last
+abbrev pub lasting : ℕ → ℕ → List ℕ → List ℕ
+lasting first last grant = grant ++ (0 ∷ first ∷ 0 ∷ last ∷ [])
+
+-- a file of version 4, of this day: a relation of one attribute, which its owner sees in clear from day 3 to 9, two more grants on it, and a leaf; user 0
+abbrev pub dating : ℕ → List ℕ → List ℕ → List ℕ
+dating day second third =
+    65 ∷ 88 ∷ 80 ∷ 0 ∷ 4 ∷ 2 ∷ 1 ∷ 1 ∷ 1 ∷ 0 ∷ 3 ∷ 0 ∷ 0 ∷ 0 ∷ 0 ∷ 0 ∷ 0 ∷ 0 ∷ day
+    ∷ (aRelation 0 1
+    ++ lasting 3 9 (aGrant 0 0 1 0) ++ second ++ third
+    ++ naming 0 0 (aNode 0 255 255 0 255 1 0)
+    ++ twoPrices 0 0
+    ++ twoPrices 0 1 ++ twoPrices 1 0)
+
+-- the other subject sees it in clear to day 4, and sealed from day 5 on
+abbrev pub dated : ℕ → List ℕ
+dated day = dating day (lasting 0 4 (aGrant 0 1 1 0)) (lasting 5 9 (aGrant 0 1 0 1))
+
+-- it sees it in clear on these days, and sealed on those
+abbrev pub datedTwice : ℕ → ℕ → ℕ → ℕ → List ℕ
+datedTwice first last first′ last′ = dating 5 (lasting first last (aGrant 0 1 1 0)) (lasting first′ last′ (aGrant 0 1 0 1))

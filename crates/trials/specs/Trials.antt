@@ -14,8 +14,8 @@ use Rattle.night.specs.declared.Node.{Node}
 use Rattle.night.specs.Versions.{known, headerLength}
 use Rattle.night.specs.Night.{Night, relationOf, grantOf, nodeOf, stepPrice, linkPrice}
 use Rattle.night.specs.Kinds.{visible, taken}
-use Rattle.night.specs.Views.{isFor, viewOf}
-use Rattle.night.specs.Promised.{Promised}
+use Rattle.night.specs.Views.{isForOn, viewOf}
+use Rattle.night.specs.Promised.{Promised, OwnersSee}
 use Rattle.trials.specs.Rules.{countsBad, relationBad, leftOver, grantBad, ownerBad, shapeBad, leafBad, stepBad, pairsBad, neededBad, mostForStep, mostForLink}
 use Rattle.format.specs.Layout.{fileLength, headerOf, nightOf}
 use Rattle.trials.specs.declared.Section.{Section}
@@ -43,9 +43,10 @@ headerTrials s =
 unfoldable pub takenBefore : Night → ℕ → ℕ
 takenBefore N i = unions (λ j. relationOf N j .set) i
 
--- an earlier grant is for the same pair of relation and subject
+-- an earlier grant for the same pair of relation and subject shares a day with it
 unfoldable pub pairSeen : Night → ℕ → Bool
-pairSeen N i = somewhere (λ j. isFor (grantOf N j) (grantOf N i .relation) (grantOf N i .subject)) i
+pairSeen N i =
+    somewhere (λ j. isForOn (grantOf N j) (grantOf N i .relation) (grantOf N i .subject) (grantOf N i .first) (grantOf N i .last)) i
 
 -- the node is a leaf of relation r
 unfoldable pub isLeafOf : Node → ℕ → Bool
@@ -125,3 +126,7 @@ checkOf s = verdict (trials s) (headerOf s)
 -- every accepted list of bytes has the promised facts
 abbrev pub AcceptedPromises : Type 0
 AcceptedPromises = (s : List ℕ) (h : Header) → checkOf s ≡ answers h → Promised (nightOf s)
+
+-- and its owners see their relations in clear, on the night's day
+abbrev pub AcceptedOwners : Type 0
+AcceptedOwners = (s : List ℕ) (h : Header) → checkOf s ≡ answers h → OwnersSee (nightOf s)

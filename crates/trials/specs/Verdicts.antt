@@ -10,7 +10,7 @@ use Rattle.format.specs.Layout.{headerOf}
 use Rattle.trials.specs.Rules.{countsBad}
 use Rattle.trials.specs.Trials.{checkOf}
 use Rattle.trials.specs.Small.{small, withUser, relationByte, grantByte, nodeByte, priceByte, parentless, twoParentless}
-use Rattle.trials.specs.Small.{aNode, naming, pairing, joining, threePairs, paired, namedTwice}
+use Rattle.trials.specs.Small.{aGrant, aNode, naming, pairing, joining, threePairs, paired, namedTwice, lasting, dating, dated, datedTwice}
 
 -- the file is refused with this number and place
 abbrev pub Refused : List ℕ → ℕ → ℕ → Type 0
@@ -27,18 +27,20 @@ pairsOf n = inOrder (λ (k : ℕ). 0 ∷ 2 ∷ []) (replicate n 0)
 -- 1 to 11
 pub record FileVerdicts : Type 0 where
   -- accepted: the small file
-  pub accepted : checkOf small ≡ answers (record { version = 1; subjects = 2; relations = 2; attributes = 2; nodes = 4; grants = 4; steps = 6; user = 0; pairs = 0 })
+  pub accepted :
+      checkOf small ≡ answers (record { version = 1; subjects = 2; relations = 2; attributes = 2; nodes = 4; grants = 4; steps = 6; user = 0; pairs = 0; day = 0 })
   -- in version 2, the small file with a user; in version 1 none is read, whatever stands behind the steps allowed
   pub user-accepted :
-      checkOf (withUser 1 small) ≡ answers (record { version = 2; subjects = 2; relations = 2; attributes = 2; nodes = 4; grants = 4; steps = 6; user = 1; pairs = 0 })
+      checkOf (withUser 1 small)
+      ≡ answers (record { version = 2; subjects = 2; relations = 2; attributes = 2; nodes = 4; grants = 4; steps = 6; user = 1; pairs = 0; day = 0 })
   pub user-unread : headerOf (set small (relationByte 0 0) 9) .user ≡ 0
   -- in version 3, a join on two pairs that needs neither, one or both of them; a pair that no node names means nothing
   pub paired-accepted :
-      checkOf (paired 0) ≡ answers (record { version = 3; subjects = 2; relations = 2; attributes = 4; nodes = 3; grants = 4; steps = 2; user = 0; pairs = 3 })
+      checkOf (paired 0) ≡ answers (record { version = 3; subjects = 2; relations = 2; attributes = 4; nodes = 3; grants = 4; steps = 2; user = 0; pairs = 3; day = 0 })
   -- version 3 keeps the user
   pub paired-user :
       checkOf (set (paired 0) 15 1)
-      ≡ answers (record { version = 3; subjects = 2; relations = 2; attributes = 4; nodes = 3; grants = 4; steps = 2; user = 1; pairs = 3 })
+      ≡ answers (record { version = 3; subjects = 2; relations = 2; attributes = 4; nodes = 3; grants = 4; steps = 2; user = 1; pairs = 3; day = 0 })
   pub paired-one : checkOf (paired 5) ≡ checkOf (paired 0)
   pub paired-both : checkOf (paired 15) ≡ checkOf (paired 0)
   -- pairs that share an attribute, a pair twice, eight pairs, of which the last alone is needed, the last of 255 pairs; no pairs at all
@@ -50,19 +52,30 @@ pub record FileVerdicts : Type 0 where
   pub pairs-none : Accepted (pairing 0 (naming 0 0 (aNode 4 0 1 255 255 0 0)) [])
   -- in version 2 no pairs are read, whatever stands behind the user
   pub pairs-unread : headerOf (set (withUser 1 small) 16 9) .pairs ≡ 0
+  -- in version 4, two grants for one pair on days that they don't share, whichever comes first, also of one day each; the owner's first day and last
+  pub dated-accepted :
+      checkOf (dated 5) ≡ answers (record { version = 4; subjects = 2; relations = 1; attributes = 1; nodes = 1; grants = 3; steps = 0; user = 0; pairs = 0; day = 5 })
+  pub dated-turned : Accepted (datedTwice 5 9 0 4)
+  pub dated-one : Accepted (datedTwice 4 4 5 5)
+  pub dated-first : Accepted (dated 3)
+  pub dated-last : Accepted (dated 9)
+  -- on a day without an own grant any serves
+  pub dated-any : Accepted (dating 2 (lasting 0 2 (aGrant 0 255 1 0)) (lasting 3 9 (aGrant 0 255 0 0)))
+  -- in version 3 no day is read, whatever stands behind the pairs
+  pub day-unread : headerOf (paired 0) .day ≡ 0
   -- 1: fewer than 3 bytes, or not the mark; before 2
   pub mark-short : Refused (take 2 small) 1 0
   pub mark-first : Refused (set small 0 66) 1 0
   pub mark-second : Refused (set small 1 89) 1 0
   pub mark-third : Refused (set small 2 81) 1 0
-  pub mark-before-version : Refused (set (set small 2 81) 4 4) 1 0
-  -- 2: fewer than 5 bytes, or version other than 1, 2 and 3; before 3
+  pub mark-before-version : Refused (set (set small 2 81) 4 5) 1 0
+  -- 2: fewer than 5 bytes, or version other than 1 to 4; before 3
   pub version-short : Refused (take 4 small) 2 0
   pub version-none : Refused (set small 4 0) 2 0
-  pub version-other : Refused (set small 4 4) 2 0
+  pub version-other : Refused (set small 4 5) 2 0
   pub version-high : Refused (set small 3 1) 2 0
   pub version-high-user : Refused (set (withUser 0 small) 3 1) 2 0
-  pub version-before-header : Refused (take 14 (set small 4 4)) 2 0
+  pub version-before-header : Refused (take 14 (set small 4 5)) 2 0
   -- 3: fewer than 15 bytes, in version 2 than 16; before 4
   pub header-short : Refused (take 14 small) 3 0
   pub header-before-counts : Refused (take 14 (set small 5 0)) 3 0
@@ -71,6 +84,9 @@ pub record FileVerdicts : Type 0 where
   -- in version 3 than 17
   pub pairs-short : Refused (take 16 (paired 0)) 3 0
   pub pairs-before-counts : Refused (take 16 (set (paired 0) 5 0)) 3 0
+  -- in version 4 than 19
+  pub day-short : Refused (take 18 (dated 5)) 3 0
+  pub day-before-counts : Refused (take 18 (set (dated 5) 5 0)) 3 0
   -- 4: a count outside its limits, or a user not below s; before 3 for the length
   pub subjects-none : Refused (set small 5 0) 4 0
   pub relations-many : Refused (set small 6 17) 4 0
@@ -79,9 +95,10 @@ pub record FileVerdicts : Type 0 where
   pub grants-many : Refused (set (set small 9 1) 10 17) 4 0
   pub counts-before-length : Refused (take 15 (set small 5 0)) 4 0
   -- counts at their limits, lowest and highest, and the last subject as user, are none
-  pub counts-least : countsBad (record { version = 1; subjects = 1; relations = 1; attributes = 1; nodes = 1; grants = 0; steps = 0; user = 0; pairs = 0 }) ≡ false
+  pub counts-least :
+      countsBad (record { version = 1; subjects = 1; relations = 1; attributes = 1; nodes = 1; grants = 0; steps = 0; user = 0; pairs = 0; day = 0 }) ≡ false
   pub counts-most :
-      countsBad (record { version = 3; subjects = 16; relations = 16; attributes = 64; nodes = 64; grants = 272; steps = 0; user = 15; pairs = 255 }) ≡ false
+      countsBad (record { version = 3; subjects = 16; relations = 16; attributes = 64; nodes = 64; grants = 272; steps = 0; user = 15; pairs = 255; day = 0 }) ≡ false
   pub user-missing : Refused (withUser 2 small) 4 0
   pub user-any : Refused (withUser 255 small) 4 0
   pub paired-user-missing : Refused (set (paired 0) 15 2) 4 0
@@ -91,6 +108,7 @@ pub record FileVerdicts : Type 0 where
   pub length-more : Refused (small ++ (0 ∷ [])) 3 0
   pub user-length-less : Refused (take 265 (withUser 0 small)) 3 0
   pub paired-length-less : Refused (take 242 (paired 0)) 3 0
+  pub dated-length-less : Refused (take 147 (dated 5)) 3 0
   pub pairs-fewer : Refused (set (paired 0) 16 4) 3 0
   pub pairs-more : Refused (set (paired 0) 16 2) 3 0
   pub length-before-relations : Refused (take 264 (set small (relationByte 0 0) 2)) 3 0
@@ -106,14 +124,24 @@ pub record FileVerdicts : Type 0 where
   pub left-before-grants : Refused (set (set small 7 3) (grantByte 0 0) 2) 5 2
   -- 6: a grant's relation, its subject, its sets, its pair seen before; the grant's number, each tried for all of it before the next
   pub grant-relation : Refused (set small (grantByte 2 0) 2) 6 2
+  pub grant-relation-alone : Refused (set (set small (grantByte 2 0) 2) (grantByte 2 17) 0) 6 2
   pub grant-subject : Refused (set small (grantByte 3 1) 2) 6 3
   pub grant-both : Refused (set small (grantByte 1 17) 2) 6 1
   pub grant-outside : Refused (set small (grantByte 0 17) 2) 6 0
+  pub grant-clear-outside : Refused (set small (grantByte 0 9) 3) 6 0
   pub pair-seen : Refused (set small (grantByte 2 1) 0) 6 2
   pub pair-any-seen : Refused (set (set small (grantByte 3 0) 0) (grantByte 3 17) 1) 6 3
   pub pair-whatever : Refused (set (set small (grantByte 2 1) 0) (grantByte 2 17) 0) 6 2
   pub bad-before-pair : Refused (set (set small (grantByte 1 0) 2) (grantByte 2 1) 0) 6 1
   pub pair-before-next : Refused (set (set small (grantByte 2 1) 0) (grantByte 3 0) 2) 6 2
+  -- a grant whose last day is before its first; one for a pair that an earlier one is for on a day that they share: the last and the first, all of its
+  -- days, or of the other's
+  pub days-turned : Refused (datedTwice 4 3 5 9) 6 1
+  pub days-turned-high : Refused (set (dated 5) 68 1) 6 1
+  pub day-shared : Refused (datedTwice 0 5 5 9) 6 2
+  pub day-shared-turned : Refused (datedTwice 5 9 0 5) 6 2
+  pub days-within : Refused (datedTwice 0 9 3 4) 6 2
+  pub days-around : Refused (datedTwice 3 4 0 9) 6 2
   -- every grant before any owner
   pub grants-before-owners : Refused (set (set small (grantByte 0 9) 0) (grantByte 3 0) 2) 6 3
   -- 7: an owner's view of its own relation isn't all clear; the relation; its own grant counts, whatever any sees; before 8
@@ -121,6 +149,10 @@ pub record FileVerdicts : Type 0 where
   pub owner-own : Refused (set (set (set small (grantByte 1 9) 0) (grantByte 3 9) 2) (grantByte 3 17) 0) 7 1
   pub owners-in-order : Refused (set (set small (grantByte 0 9) 0) (grantByte 1 9) 0) 7 0
   pub owners-before-nodes : Refused (set (set small (grantByte 1 9) 0) (nodeByte 0 0) 9) 7 1
+  -- on the night's day, which has two bytes: the day before the own grant's first, the day after its last, 256 days later
+  pub owner-early : Refused (dated 2) 7 0
+  pub owner-late : Refused (dated 10) 7 0
+  pub owner-much-later : Refused (set (dated 5) 17 1) 7 0
   -- 8: kind, children, a child already taken, unused fields, zero bytes, size; the node
   pub kind-unknown : Refused (set small (nodeByte 1 0) 9) 8 1
   pub child-itself : Refused (set small (nodeByte 2 1) 2) 8 2

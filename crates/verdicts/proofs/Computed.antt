@@ -8,10 +8,10 @@ use Rattle.laws.specs.Sums.{sum}
 use Rattle.laws.specs.Trials.{verdict, rows}
 use Rattle.laws.specs.Upwards.{upwards}
 use Rattle.sets.specs.Sets.{bit, member, union, meet, minus, within, apart, below, single, size, unions}
-use Rattle.night.specs.Versions.{known, delivers, headerLength, hasPairs, nodeLength, lastKind}
+use Rattle.night.specs.Versions.{known, delivers, headerLength, hasPairs, nodeLength, lastKind, hasDays, grantLength}
 use Rattle.night.specs.Night.{relationOf, grantOf, nodeOf, stepPrice, linkPrice, pairOf}
 use Rattle.night.specs.Kinds.{usesLeft, usesRight, usesX, usesY, usesSet, usesPairs, itsPair, bothOf, pairsRead, reads, readTogether, visibleAfter, visibleStep, visibles, isChild, taken}
-use Rattle.night.specs.Views.{isFor, grantFor, viewOf, clearOf, sealedOf}
+use Rattle.night.specs.Views.{isFor, sharesDay, isForOn, grantOn, viewOn, clearOn, sealedOn, clearOf, sealedOf}
 use Rattle.trials.specs.Rules.{userBad, countsBad, relationBad, leftOver, subjectThere, grantBad, ownerBad, childBad, leftBad, rightBad, unusedBad, shapeBad, leafBad, xBad, yBad, setBad, placeBad, stepBad, half, neededBad, mostForStep, mostForLink, namesBad, pairBad, pairsBad}
 use Rattle.format.specs.Layout.{grantsFrom, nodesFrom, stepPricesFrom, linkPricesFrom, fileLength, headerOf, relationAt, grantAt, nodeAt, pricesAt, nightIn, pairsFrom, pairsIn, pairAt}
 use Rattle.model.specs.Ties.{gathered, tie, merged}
@@ -25,7 +25,7 @@ use Rattle.verdicts.specs.Refusals.{keptFromUser, userTrials, choiceTria
 use Rattle.verdicts.specs.Verdicts.{Verdicts}
 
 pub verdicts : Verdicts
-unfolding anyOf be first somewhere verdict rows upwards bit member union meet minus within apart below single unions relationOf grantOf pairOf nodeOf stepPrice linkPrice usesLeft usesRight usesX usesY usesSet usesPairs itsPair bothOf pairsRead reads readTogether visibleAfter visibleStep visibles isChild taken isFor grantFor viewOf lastKind known delivers hasPairs nodeLength headerLength userBad countsBad relationBad leftOver subjectThere grantBad ownerBad childBad leftBad rightBad namesBad unusedBad shapeBad leafBad xBad yBad setBad placeBad pairBad pairsBad stepBad half neededBad mostForStep mostForLink grantsFrom pairsFrom pairsIn nodesFrom stepPricesFrom linkPricesFrom fileLength headerOf relationAt grantAt pairAt nodeAt pricesAt nightIn notMarked notVersioned headerTrials takenBefore pairSeen isLeafOf leafBefore attributesBad priceIn mostIn countIn trialsOf section recordTrials treeTrials trials ones sum size clearOf sealedOf gathered tie merged leastView tests ties joined result leafTable stepTable tableStep tables tableOf clearOffends sealedOffends tiedOffends may mayTake isCandidate candidateSet weight stepsAt steps keptFromUser userTrials choiceTrials withoutCandidate candidateTrials stepsTrials offerBad offerTrials choiceRoomTrials planRoomTrials keysRoomTrials cheapestTrials cheapestPlanTrials offeredTrials offeredPlanTrials noStep askedTrials whyTrials small
+unfolding anyOf be first somewhere verdict rows upwards bit member union meet minus within apart below single unions relationOf grantOf pairOf nodeOf stepPrice linkPrice usesLeft usesRight usesX usesY usesSet usesPairs itsPair bothOf pairsRead reads readTogether visibleAfter visibleStep visibles isChild taken isFor sharesDay isForOn grantOn viewOn lastKind known delivers hasPairs nodeLength headerLength userBad countsBad relationBad leftOver subjectThere grantBad ownerBad childBad leftBad rightBad namesBad unusedBad shapeBad leafBad xBad yBad setBad placeBad pairBad pairsBad stepBad half neededBad mostForStep mostForLink grantsFrom pairsFrom pairsIn nodesFrom stepPricesFrom linkPricesFrom fileLength headerOf relationAt grantAt pairAt nodeAt pricesAt nightIn notMarked notVersioned headerTrials takenBefore pairSeen isLeafOf leafBefore attributesBad priceIn mostIn countIn trialsOf section recordTrials treeTrials trials ones sum size gathered tie merged leastView tests ties joined result leafTable stepTable tableStep tables tableOf clearOffends sealedOffends tiedOffends may mayTake isCandidate candidateSet weight stepsAt steps keptFromUser userTrials choiceTrials withoutCandidate candidateTrials stepsTrials offerBad offerTrials choiceRoomTrials planRoomTrials keysRoomTrials cheapestTrials cheapestPlanTrials offeredTrials offeredPlanTrials noStep askedTrials whyTrials small hasDays grantLength clearOn sealedOn
 verdicts =
     record {
       file = file-verdicts;
@@ -85,4 +85,11 @@ verdicts =
       pairs-steps-short = refl;
       pairs-offered = refl;
       pairs-offer-candidate = refl;
+      day-user-may = refl;
+      day-user-sealed = refl;
+      day-owner-first = refl;
+      day-steps-enough = refl;
+      day-steps-short = refl;
+      day-offered = refl;
+      day-offer-early = refl;
     }

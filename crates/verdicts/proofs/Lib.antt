@@ -2,3 +2,4 @@
 pub mod Computed
 pub mod Fit
 pub mod User
+pub mod Days

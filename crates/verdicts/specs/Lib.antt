@@ -3,3 +3,4 @@ pub mod Refusals
 pub mod Verdicts
 pub mod Fit
 pub mod User
+pub mod Days

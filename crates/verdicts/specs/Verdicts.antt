@@ -1,11 +1,11 @@
--- The table of verdicts: each number of document 01 and of tickets 2026-01 and 2026-02 with its place, also in the version of ticket 2026-05, and, where two
--- conditions hold, the earlier one.
+-- The table of verdicts: each number of document 01 and of tickets 2026-01 and 2026-02 with its place, also in the versions of tickets 2026-05 and 2026-06,
+-- and, where two conditions hold, the earlier one.
 use Prim.Native.Nat.{ℕ}
 use mathlib.Core.Path.{_≡_}
 use mathlib.Core.List.{List, [], _∷_, _++_}
 use lib.ListN.{set, replicate}
 use Rattle.laws.specs.Trials.{Says, answers, refuses, verdict}
-use Rattle.trials.specs.Small.{withUser, aRelation, aGrant, aNode, small, paired}
+use Rattle.trials.specs.Small.{withUser, aRelation, aGrant, aNode, naming, lasting, small, paired, dated}
 use Rattle.trials.specs.Verdicts.{FileVerdicts}
 use Rattle.verdicts.specs.Refusals.{Rooms, cheapestPlanTrials, offeredPlanTrials, whyTrials}
 
@@ -54,6 +54,14 @@ unseen allowed =
 -- the join on two pairs where any sees the second relation in clear, so that subject 0, its user, may have both leaves; subject 0 alone may run it: two steps
 abbrev pub joinedOnPairs : ℕ → List ℕ
 joinedOnPairs allowed = set (set (set (paired 0) 98 12) 106 0) 14 allowed
+
+-- a leaf of subject 0, who sees it in clear from day 3 to 9 and is the user, and a select over it, which subject 1, who sees it sealed from day 5 on, may run
+-- from then on: on day 4 one step, on day 5 two
+abbrev pub selectedOn : ℕ → ℕ → List ℕ
+selectedOn day allowed =
+    65 ∷ 88 ∷ 80 ∷ 0 ∷ 4 ∷ 2 ∷ 1 ∷ 1 ∷ 2 ∷ 0 ∷ 2 ∷ 0 ∷ 0 ∷ 0 ∷ allowed ∷ 0 ∷ 0 ∷ 0 ∷ day
+    ∷ (aRelation 0 1 ++ lasting 3 9 (aGrant 0 0 1 0) ++ lasting 5 9 (aGrant 0 1 0 1) ++ naming 0 0 (aNode 0 255 255 0 255 1 0)
+    ++ naming 0 0 (aNode 2 0 255 0 255 0 0) ++ replicate 32 0)
 
 pub record Verdicts : Type 0 where
   -- 1 to 11
@@ -127,3 +135,11 @@ pub record Verdicts : Type 0 where
   pub pairs-steps-short : cheapest (joinedOnPairs 1) (room 3 6 8) ≡ refuses 13 0
   pub pairs-offered : offered (joinedOnPairs 0) (0 ∷ 1 ∷ 0 ∷ []) (room 0 6 8) ≡ answers tt
   pub pairs-offer-candidate : offered (joinedOnPairs 0) (0 ∷ 1 ∷ 1 ∷ []) (room 0 6 8) ≡ refuses 14 2
+  -- in version 4, of the night's day: 17 of a user who sees the leaf in clear to day 4 and sealed from day 5 on; 13 and 14 by the candidates of the day; 7 first
+  pub day-user-may : cheapest (set (dated 4) 15 1) (room 1 2 2) ≡ answers tt
+  pub day-user-sealed : cheapest (set (dated 5) 15 1) (room 1 2 2) ≡ refuses 17 0
+  pub day-owner-first : cheapest (set (dated 2) 15 1) (room 0 0 0) ≡ refuses 7 0
+  pub day-steps-enough : cheapest (selectedOn 4 1) (room 2 4 2) ≡ answers tt
+  pub day-steps-short : cheapest (selectedOn 5 1) (room 2 4 2) ≡ refuses 13 0
+  pub day-offered : offered (selectedOn 5 0) (0 ∷ 1 ∷ []) (room 0 4 2) ≡ answers tt
+  pub day-offer-early : offered (selectedOn 4 0) (0 ∷ 1 ∷ []) (room 0 4 2) ≡ refuses 14 1

@@ -70,6 +70,8 @@ fn decoded(file: &[u8], h: Header, from: usize, n: usize) -> [Grant; AT_ONCE]
     let mut out = [Grant {
         relation: 0,
         subject: 0,
+        first: 0,
+        last: 0,
         clear: 0,
         sealed: 0,
     }; AT_ONCE];

@@ -20,7 +20,7 @@ use Rattle.laws.proofs.InOrder.{in-order-part}
 use Rattle.laws.proofs.Trials.{passed, passes-append, passes-accepts, passed-then, refused-then}
 use Rattle.laws.proofs.Upwards.{each-length, each-same, each-self, each-holds}
 use Rattle.night.specs.declared.Header.{Header}
-use Rattle.night.specs.Versions.{delivers, headerLength, nodeLength}
+use Rattle.night.specs.Versions.{delivers, headerLength, nodeLength, hasDays, grantLength}
 use Rattle.night.specs.Night.{noRelation, noGrant, noNode}
 use Rattle.format.specs.Layout.{grantsFrom, nodesFrom, pairsFrom, pairsIn, stepPricesFrom, linkPricesFrom, fileLength, headerOf, asRead, headerBytes, relationAt, relationBytes, grantAt, grantBytes, nodeAt, nodeBytes, nightIn, nightOf}
 use Rattle.format.proofs.Written.{header-again, relation-again, grant-again, node-again}
@@ -37,7 +37,7 @@ as-counted s =
     let h = headerOf s in
     rw (
       eq-fine (length (each (h .relations) (λ i. relationAt s (headerLength (h .version) + 9 * i)))) (h .relations) (each-length _ (h .relations)),
-      eq-fine (length (each (h .grants) (λ i. grantAt s (grantsFrom h + 18 * i)))) (h .grants) (each-length _ (h .grants)),
+      eq-fine (length (each (h .grants) (λ i. grantAt (h .version) s (grantsFrom h + grantLength (h .version) * i)))) (h .grants) (each-length _ (h .grants)),
       eq-fine (length (each (h .nodes) (λ i. nodeAt (h .version) s (nodesFrom h + nodeLength (h .version) * i)))) (h .nodes) (each-length _ (h .nodes)),
       eq-fine (length (bytesFrom s (pairsFrom h) (2 * pairsIn h))) (2 * pairsIn h) (each-length _ (2 * pairsIn h)),
       eq-fine (length (pricesFrom s (stepPricesFrom h) (h .nodes * h .subjects))) (h .nodes * h .subjects) (each-length _ (h .nodes * h .subjects)),
@@ -48,15 +48,27 @@ as-counted s =
 module _ (s : List ℕ) (all : Bytes s) where
   header-fits : HeaderFits (headerOf s)
   unfolding headerOf
-  header-fits = record { version = be-fits s all 3 2; grants = be-fits s all 9 2; steps = be-fits s all 11 4 }
+  header-fits = record { version = be-fits s all 3 2; grants = be-fits s all 9 2; steps = be-fits s all 11 4; day = either (hasDays (be s 3 2)) }
+    where
+      either : (b : Bool) → (if b then be s 17 2 else 0) < 2 ^ 16
+      either true = be-fits s all 17 2
+      either false = lit< tt
 
   relation-fits : (at : ℕ) → RelationFits (relationAt s at)
   unfolding relationAt
   relation-fits at = be-fits s all (at + 1) 8
 
-  grant-fits : (at : ℕ) → GrantFits (grantAt s at)
+  grant-fits : (version at : ℕ) → GrantFits (grantAt version s at)
   unfolding grantAt
-  grant-fits at = (be-fits s all (at + 2) 8, be-fits s all (at + 10) 8)
+  grant-fits version at = (be-fits s all (at + 2) 8, be-fits s all (at + 10) 8, first (hasDays version), last (hasDays version))
+    where
+      first : (b : Bool) → (if b then be s (at + 18) 2 else 0) < 2 ^ 16
+      first true = be-fits s all (at + 18) 2
+      first false = lit< tt
+
+      last : (b : Bool) → (if b then be s (at + 20) 2 else 65535) < 2 ^ 16
+      last true = be-fits s all (at + 20) 2
+      last false = lit< tt
 
   node-fits : (version at : ℕ) → NodeFits (nodeAt version s at)
   unfolding nodeAt
@@ -69,7 +81,7 @@ module _ (s : List ℕ) (all : Bytes s) where
       record {
         header = header-fits;
         relation = each-holds RelationFits _ noRelation (h .relations) (lit< tt) (λ k l. relation-fits (headerLength (h .version) + 9 * k));
-        grant = each-holds GrantFits _ noGrant (h .grants) (lit< tt, lit< tt) (λ k l. grant-fits (grantsFrom h + 18 * k));
+        grant = each-holds GrantFits _ noGrant (h .grants) (lit< tt, lit< tt, lit< tt, lit< tt) (λ k l. grant-fits (h .version) (grantsFrom h + grantLength (h .version) * k));
         node = each-holds NodeFits _ noNode (h .nodes) (lit< tt, lit< tt, lit< tt) (λ k l. node-fits (h .version) (nodesFrom h + nodeLength (h .version) * k));
         step-price = each-holds (λ v. v < 2 ^ 32) _ 0 (h .nodes * h .subjects) (lit< tt) (λ k l. be-fits s all (stepPricesFrom h + 4 * k) 4);
         link-price = each-holds (λ v. v < 2 ^ 32) _ 0 (h .subjects * h .subjects) (lit< tt) (λ k l. be-fits s all (linkPricesFrom h + 4 * k) 4);
@@ -95,7 +107,10 @@ module _ (s : List ℕ) (all : Bytes s) (long : length s ≡ fileLength (headerO
   abbrev wide : ℕ
   wide = nodeLength (head .version)
 
-  ends : (headerLength (head .version) + 9 * head .relations ≡ grantsFrom head) × (grantsFrom head + 18 * head .grants ≡ nodesFrom head) × (nodesFrom head + wide * head .nodes ≡ pairsFrom head)
+  abbrev granted : ℕ
+  granted = grantLength (head .version)
+
+  ends : (headerLength (head .version) + 9 * head .relations ≡ grantsFrom head) × (grantsFrom head + granted * head .grants ≡ nodesFrom head) × (nodesFrom head + wide * head .nodes ≡ pairsFrom head)
       × (pairsFrom head + 2 * pairsIn head ≡ stepPricesFrom head) × (stepPricesFrom head + 4 * (head .nodes * head .subjects) ≡ linkPricesFrom head)
       × (linkPricesFrom head + 4 * (head .subjects * head .subjects) ≡ fileLength head)
   unfolding grantsFrom nodesFrom pairsFrom stepPricesFrom linkPricesFrom fileLength
@@ -106,10 +121,10 @@ module _ (s : List ℕ) (all : Bytes s) (long : length s ≡ fileLength (headerO
       in-order-part relationBytes 9 _ s (headerLength (head .version)) (head .relations)
       (λ i l. relation-again s all (headerLength (head .version) + 9 * i) (entry-within 9 (head .relations) i (headerLength (head .version)) s l (omega (arith, ends, long))))
 
-  grants-again : inOrder grantBytes (each (head .grants) (λ i. grantAt s (grantsFrom head + 18 * i))) ≡ take (18 * head .grants) (drop (grantsFrom head) s)
+  grants-again : inOrder (grantBytes (head .version)) (each (head .grants) (λ i. grantAt (head .version) s (grantsFrom head + granted * i))) ≡ take (granted * head .grants) (drop (grantsFrom head) s)
   grants-again =
-      in-order-part grantBytes 18 _ s (grantsFrom head) (head .grants)
-      (λ i l. grant-again s all (grantsFrom head + 18 * i) (entry-within 18 (head .grants) i (grantsFrom head) s l (omega (arith, ends, long))))
+      in-order-part (grantBytes (head .version)) granted _ s (grantsFrom head) (head .grants)
+      (λ i l. grant-again s all (grantsFrom head + granted * i) (head .version) (entry-within granted (head .grants) i (grantsFrom head) s l (omega (arith, ends, long))))
 
   nodes-again : inOrder (nodeBytes (head .version)) (each (head .nodes) (λ i. nodeAt (head .version) s (nodesFrom head + wide * i))) ≡ take (wide * head .nodes) (drop (nodesFrom head) s)
   nodes-again =
@@ -142,7 +157,7 @@ module _ (s : List ℕ) (all : Bytes s) (long : length s ≡ fileLength (headerO
         ← ends .2,
         joins s (nodesFrom head) (wide * head .nodes) nodes-again,
         ← ends .1,
-        joins s (grantsFrom head) (18 * head .grants) grants-again,
+        joins s (grantsFrom head) (granted * head .grants) grants-again,
         ← ends .0,
         joins s (headerLength (head .version)) (9 * head .relations) relations-again,
         header,

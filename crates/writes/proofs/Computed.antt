@@ -7,21 +7,22 @@ use Rattle.laws.specs.InOrder.{inOrder}
 use Rattle.laws.specs.Trials.{verdict, rows}
 use Rattle.laws.specs.Upwards.{upwards}
 use Rattle.sets.specs.Sets.{bit, member, union, meet, minus, within, apart, below, single, unions}
-use Rattle.night.specs.Versions.{known, delivers, hasPairs, lastKind, headerLength, nodeLength}
+use Rattle.night.specs.Versions.{known, delivers, hasPairs, lastKind, headerLength, nodeLength, hasDays, grantLength}
 use Rattle.night.specs.Night.{relationOf, grantOf, nodeOf, pairOf, stepPrice, linkPrice}
 use Rattle.night.specs.Kinds.{usesLeft, usesRight, usesX, usesY, usesSet, usesPairs, itsPair, bothOf, pairsRead, reads, readTogether, visibleAfter, visibleStep, visibles, isChild, taken}
-use Rattle.night.specs.Views.{isFor, grantFor, viewOf}
+use Rattle.night.specs.Views.{isFor, sharesDay, isForOn, grantOn, viewOn}
 use Rattle.trials.specs.Rules.{userBad, countsBad, relationBad, leftOver, subjectThere, grantBad, ownerBad, childBad, leftBad, rightBad, unusedBad, namesBad, shapeBad, leafBad, xBad, yBad, setBad, placeBad, stepBad, pairBad, pairsBad, half, neededBad, mostForStep, mostForLink}
-use Rattle.format.specs.Layout.{grantsFrom, nodesFrom, pairsFrom, pairsIn, stepPricesFrom, linkPricesFrom, fileLength, headerOf, relationAt, grantAt, nodeAt, pairAt, pricesAt, nightIn, headerBytes, asRead, relationBytes, grantBytes, nodeBytes, nodeAsRead}
+use Rattle.night.specs.Days.{inVersion}
+use Rattle.format.specs.Layout.{grantsFrom, nodesFrom, pairsFrom, pairsIn, stepPricesFrom, linkPricesFrom, fileLength, headerOf, relationAt, grantAt, nodeAt, pairAt, pricesAt, nightIn, headerBytes, asRead, relationBytes, grantBytes, grantAsRead, nodeBytes, nodeAsRead}
 use Rattle.trials.specs.Trials.{notMarked, notVersioned, headerTrials, takenBefore, pairSeen, isLeafOf, leafBefore, attributesBad, priceIn, mostIn, countIn, trialsOf, section, recordTrials, treeTrials}
 use Rattle.trials.specs.Small.{small}
-use Rattle.writes.specs.Values.{rowsOf, nightFrom, fileBytes, valuesOf}
+use Rattle.writes.specs.Values.{rowsOf, nightFrom, fileBytes, valuesOf, readAs}
 use Rattle.writes.specs.Writing.{miscounted, miscountedBy, countTrials, roomTrials, writeTrials, writeOf, rewriteOf}
 use Rattle.writes.specs.Small.{smallValues}
 use Rattle.writes.specs.Verdicts.{WriteVerdicts}
 
 pub write-verdicts : WriteVerdicts
-unfolding be bytes anyOf first somewhere inOrder verdict rows upwards bit member union meet minus within apart below single unions known delivers headerLength relationOf grantOf nodeOf stepPrice linkPrice usesLeft usesRight usesX usesY usesSet reads readTogether visibleAfter visibleStep visibles isChild taken isFor grantFor viewOf userBad countsBad relationBad leftOver subjectThere grantBad ownerBad childBad leftBad rightBad unusedBad shapeBad leafBad xBad yBad setBad placeBad stepBad half neededBad mostForStep mostForLink grantsFrom nodesFrom stepPricesFrom linkPricesFrom fileLength headerOf headerBytes asRead relationAt relationBytes grantAt grantBytes nodeAt nodeBytes pricesAt nightIn notMarked notVersioned headerTrials takenBefore pairSeen isLeafOf leafBefore attributesBad priceIn mostIn countIn trialsOf section recordTrials treeTrials small rowsOf nightFrom fileBytes valuesOf miscounted miscountedBy countTrials roomTrials writeTrials writeOf rewriteOf smallValues hasPairs lastKind nodeLength pairOf usesPairs itsPair bothOf pairsRead namesBad pairBad pairsBad pairsFrom pairsIn pairAt nodeAsRead
+unfolding be bytes anyOf first somewhere inOrder verdict rows upwards bit member union meet minus within apart below single unions known delivers headerLength relationOf grantOf nodeOf stepPrice linkPrice usesLeft usesRight usesX usesY usesSet reads readTogether visibleAfter visibleStep visibles isChild taken isFor sharesDay isForOn grantOn viewOn userBad countsBad relationBad leftOver subjectThere grantBad ownerBad childBad leftBad rightBad unusedBad shapeBad leafBad xBad yBad setBad placeBad stepBad half neededBad mostForStep mostForLink grantsFrom nodesFrom stepPricesFrom linkPricesFrom fileLength headerOf headerBytes asRead relationAt relationBytes grantAt grantBytes grantAsRead nodeAt nodeBytes pricesAt nightIn notMarked notVersioned headerTrials takenBefore pairSeen isLeafOf leafBefore attributesBad priceIn mostIn countIn trialsOf section recordTrials treeTrials small rowsOf nightFrom fileBytes valuesOf miscounted miscountedBy countTrials roomTrials writeTrials writeOf rewriteOf smallValues hasPairs lastKind nodeLength pairOf usesPairs itsPair bothOf pairsRead namesBad pairBad pairsBad pairsFrom pairsIn pairAt nodeAsRead hasDays grantLength readAs inVersion
 write-verdicts =
     record {
       values-stand = refl;
@@ -29,6 +30,7 @@ write-verdicts =
       values-prices = refl;
       values-pairs = refl;
       values-own = refl;
+      values-days = refl;
       night-same = refl;
       night-steps = refl;
       night-links = refl;
@@ -40,6 +42,7 @@ write-verdicts =
       night-user = refl;
       night-counted = refl;
       night-named = refl;
+      night-dated = refl;
       file-bytes = refl;
       file-prices = refl;
       file-own = refl;
@@ -48,6 +51,7 @@ write-verdicts =
       file-pairs = refl;
       file-counted = refl;
       file-named = refl;
+      file-dated = refl;
       written = refl;
       written-more = refl;
       written-user = refl;
@@ -57,8 +61,14 @@ write-verdicts =
       written-no-pairs = refl;
       written-counted = refl;
       written-named = refl;
+      written-days = refl;
+      written-dated = refl;
       counted-back = refl;
       named-back = refl;
+      dated-back = refl;
+      dated-as = refl;
+      night-four = refl;
+      length-four = refl;
       version-none = refl;
       version-other = refl;
       version-high = refl;
@@ -97,6 +107,9 @@ write-verdicts =
       left-over = refl;
       grant-relation = refl;
       pair-seen = refl;
+      days-turned = refl;
+      days-met = refl;
+      owner-late = refl;
       owner-blind = refl;
       owners-before-nodes = refl;
       kind-unknown = refl;
@@ -121,6 +134,7 @@ write-verdicts =
       room-none = refl;
       room-user-short = refl;
       room-pairs-short = refl;
+      room-days-short = refl;
       room-no-pairs-short = refl;
       version-before-room = refl;
       counts-before-room = refl;
@@ -140,10 +154,12 @@ write-verdicts =
       again-more = refl;
       again-user = refl;
       again-pairs = refl;
+      again-days = refl;
       again-mark = refl;
       again-version = refl;
       again-header = refl;
       again-header-pairs = refl;
+      again-header-days = refl;
       again-counts = refl;
       again-fewer = refl;
       again-more-bytes = refl;

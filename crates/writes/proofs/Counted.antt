@@ -10,7 +10,7 @@ use Rattle.laws.specs.BigEndian.{bytes}
 use Rattle.laws.proofs.BigEndian.{bytes-length}
 use Rattle.laws.proofs.Cases.{none-of}
 use Rattle.laws.proofs.InOrder.{in-order-length}
-use Rattle.night.specs.Versions.{nodeLength}
+use Rattle.night.specs.Versions.{nodeLength, grantLength}
 use Rattle.format.specs.Layout.{grantsFrom, nodesFrom, pairsFrom, pairsIn, stepPricesFrom, linkPricesFrom, fileLength, relationBytes, grantBytes, nodeBytes}
 use Rattle.format.proofs.Written.{header-long, relation-long, grant-long, node-long}
 use Rattle.writes.specs.Values.{Values, fileBytes}
@@ -49,7 +49,7 @@ as-long vs fine =
       in-order-length relationBytes 9 relation-long (vs .relations),
       n .relations,
       length-append,
-      in-order-length grantBytes 18 grant-long (vs .grants),
+      in-order-length (grantBytes (vs .header .version)) (grantLength (vs .header .version)) (grant-long (vs .header .version)) (vs .grants),
       n .grants,
       length-append,
       in-order-length (nodeBytes (vs .header .version)) (nodeLength (vs .header .version)) (node-long (vs .header .version)) (vs .nodes),

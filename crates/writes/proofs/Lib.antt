@@ -5,3 +5,4 @@ mod Sections
 pub mod ReadBack
 pub mod Judged
 pub mod Again
+pub mod Days

@@ -17,9 +17,9 @@ use Rattle.night.specs.declared.Header.{Header}
 use Rattle.night.specs.declared.Relation.{Relation}
 use Rattle.night.specs.declared.Grant.{Grant}
 use Rattle.night.specs.declared.Node.{Node}
-use Rattle.night.specs.Versions.{hasPairs, headerLength, nodeLength}
+use Rattle.night.specs.Versions.{hasPairs, headerLength, nodeLength, grantLength}
 use Rattle.night.specs.Night.{Night, noRelation, noGrant, noNode}
-use Rattle.format.specs.Layout.{grantsFrom, nodesFrom, pairsFrom, pairsIn, stepPricesFrom, linkPricesFrom, fileLength, headerOf, asRead, headerBytes, relationAt, relationBytes, grantAt, grantBytes, nodeAt, nodeBytes, nodeAsRead, pairAt, pricesAt, nightIn, nightOf}
+use Rattle.format.specs.Layout.{grantsFrom, nodesFrom, pairsFrom, pairsIn, stepPricesFrom, linkPricesFrom, fileLength, headerOf, asRead, headerBytes, relationAt, relationBytes, grantAt, grantBytes, grantAsRead, nodeAt, nodeBytes, nodeAsRead, pairAt, pricesAt, nightIn, nightOf}
 use Rattle.format.proofs.Read.{relation-copied, grant-copied, node-copied}
 use Rattle.format.proofs.Sections.{cell-lt}
 use Rattle.format.proofs.Written.{header-long, relation-long, grant-long, node-long, header-back, relation-back, grant-back, node-back}
@@ -34,8 +34,9 @@ module _ (s : List ℕ) (at : ℕ) where
   relation-from : (v : Relation) → RelationFits v → ((k : ℕ) → k < 9 → getD (relationBytes v) k 0 ≡ getD s (at + k) 0) → relationAt s at ≡ v
   relation-from v fits copied = sym (relation-copied 9 s at (relationBytes v) copied (omega arith)) ∙ relation-back v fits
 
-  grant-from : (v : Grant) → GrantFits v → ((k : ℕ) → k < 18 → getD (grantBytes v) k 0 ≡ getD s (at + k) 0) → grantAt s at ≡ v
-  grant-from v fits copied = sym (grant-copied 18 s at (grantBytes v) copied (omega arith)) ∙ grant-back v (fits .0) (fits .1)
+  grant-from : (version : ℕ) (v : Grant) → GrantFits v → ((k : ℕ) → k < grantLength version → getD (grantBytes version v) k 0 ≡ getD s (at + k) 0) → grantAt version s at ≡ grantAsRead version v
+  grant-from version v fits copied =
+      sym (grant-copied (grantLength version) s at (grantBytes version v) copied version (omega arith)) ∙ grant-back version v (fits .0) (fits .1) (fits .2) (fits .3)
 
   node-from : (version : ℕ) (v : Node) → NodeFits v → ((k : ℕ) → k < nodeLength version → getD (nodeBytes version v) k 0 ≡ getD s (at + k) 0) → nodeAt version s at ≡ nodeAsRead version v
   node-from version v fits copied = sym (node-copied (nodeLength version) s at (nodeBytes version v) copied version (omega arith)) ∙ node-back version v (fits .0) (fits .1) (fits .2)
@@ -99,7 +100,7 @@ module _ (vs : Values) where
   R = inOrder relationBytes (vs .relations)
 
   abbrev G : List ℕ
-  G = inOrder grantBytes (vs .grants)
+  G = inOrder (grantBytes (vs .header .version)) (vs .grants)
 
   abbrev N : List ℕ
   N = inOrder (nodeBytes (vs .header .version)) (vs .nodes)
@@ -140,7 +141,9 @@ module _ (vs : Values) where
 
     third-at : length ((H ++ R) ++ G) ≡ nodesFrom (vs .header)
     unfolding nodesFrom
-    third-at = rw (length-append (H ++ R) G, second-at, in-order-length grantBytes 18 grant-long (vs .grants), n .grants) refl
+    third-at =
+        let version = vs .header .version in
+        rw (length-append (H ++ R) G, second-at, in-order-length (grantBytes version) (grantLength version) (grant-long version) (vs .grants), n .grants) refl
 
     fourth-at : length (((H ++ R) ++ G) ++ N) ≡ pairsFrom (vs .header)
     unfolding pairsFrom
@@ -168,8 +171,8 @@ module _ (vs : Values) where
         (header-long h) (fits .relation) (h .relations) (n .relations) ∙ map-id (vs .relations)
         in
         let grants =
-        section-back grantBytes 18 grant-long noGrant grantAt (λ v. v) GrantFits grant-from (H ++ R) (vs .grants) (N ++ (P ++ (S ++ L))) s (grantsFrom h) second-there second-at (fits .grant)
-        (h .grants) (n .grants) ∙ map-id (vs .grants)
+        section-back (grantBytes version) (grantLength version) (grant-long version) noGrant (grantAt version) (grantAsRead version) GrantFits (λ s at. grant-from s at version) (H ++ R) (vs .grants) (N ++ (P ++ (S ++ L))) s (grantsFrom h) second-there second-at (fits .grant)
+        (h .grants) (n .grants)
         in
         let nodes =
         section-back (nodeBytes version) (nodeLength version) (node-long version) noNode (nodeAt version) (nodeAsRead version) NodeFits (λ s at. node-from s at version)
@@ -188,7 +191,7 @@ module _ (vs : Values) where
         λ i. record { header = asRead h; relations = relations i; grants = grants i; nodes = nodes i; pairs = pairs i; stepPrices = steps i; linkPrices = links i }
 
   pub header-read : ValuesFit vs → headerOf (fileBytes vs) ≡ asRead (vs .header)
-  header-read fits = rw first-there (header-back (vs .header) (R ++ (G ++ (N ++ (P ++ (S ++ L))))) (fits .header .version) (fits .header .grants) (fits .header .steps))
+  header-read fits = rw first-there (header-back (vs .header) (R ++ (G ++ (N ++ (P ++ (S ++ L))))) (fits .header .version) (fits .header .grants) (fits .header .steps) (fits .header .day))
 
 pub reads-back : ReadsBack
 reads-back vs fits fine = ap (nightIn (fileBytes vs)) (header-read vs fits) ∙ night-back vs (counted-of vs fine) fits

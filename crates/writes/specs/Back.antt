@@ -20,12 +20,13 @@ pub record HeaderFits (h : Header) : Type 0 where
   pub version : h .version < 2 ^ 16
   pub grants : h .grants < 2 ^ 16
   pub steps : h .steps < 2 ^ 32
+  pub day : h .day < 2 ^ 16
 
 abbrev pub RelationFits : Relation → Type 0
 RelationFits v = v .set < 2 ^ 64
 
 abbrev pub GrantFits : Grant → Type 0
-GrantFits v = (v .clear < 2 ^ 64) × (v .sealed < 2 ^ 64)
+GrantFits v = (v .clear < 2 ^ 64) × (v .sealed < 2 ^ 64) × (v .first < 2 ^ 16) × (v .last < 2 ^ 16)
 
 abbrev pub NodeFits : Node → Type 0
 NodeFits v = (v .set < 2 ^ 64) × (v .needed < 2 ^ 64) × (v .size < 2 ^ 32)
@@ -46,7 +47,7 @@ Bytes s = (k : ℕ) → getD s k 0 < 256
 abbrev pub ReadsBack : Type 0
 ReadsBack = (vs : Values) → ValuesFit vs → miscounted vs ≡ false → nightOf (fileBytes vs) ≡ nightFrom vs
 
--- and so are its values, header and nodes as they are read
+-- and so are its values, header, grants and nodes as they are read
 abbrev pub ValuesBack : Type 0
 ValuesBack = (vs : Values) → ValuesFit vs → miscounted vs ≡ false → valuesOf (fileBytes vs) ≡ readAs vs
 

@@ -4,3 +4,4 @@ pub mod Writing
 pub mod Back
 pub mod Small
 pub mod Verdicts
+pub mod Days

@@ -6,11 +6,12 @@ use Rattle.night.specs.declared.Header.{Header}
 use Rattle.night.specs.declared.Relation.{Relation}
 use Rattle.night.specs.declared.Grant.{Grant}
 use Rattle.night.specs.declared.Node.{Node}
-use Rattle.night.specs.Night.{noRelation, noGrant, noNode}
+use Rattle.night.specs.Night.{noRelation, noNode}
+use Rattle.night.specs.Days.{headerIn}
 use Rattle.trials.specs.Small.{small, twoPrices, threePairs}
-use Rattle.writes.specs.Values.{Values, withHeader}
+use Rattle.writes.specs.Values.{Values, withHeader, withGrants}
 
--- a header with no pairs: version, subjects, relations, attributes, nodes, grants, steps allowed, user
+-- a header with no pairs, of day 0: version, subjects, relations, attributes, nodes, grants, steps allowed, user
 abbrev pub aHeader : ℕ → ℕ → ℕ → ℕ → ℕ → ℕ → ℕ → ℕ → Header
 aHeader version subjects relations attributes nodes grants steps user =
     record {
@@ -23,6 +24,7 @@ aHeader version subjects relations attributes nodes grants steps user =
       steps = steps;
       user = user;
       pairs = 0;
+      day = 0;
     }
 
 -- the same header with so many pairs
@@ -38,15 +40,24 @@ counting pairs h =
       steps = h .steps;
       user = h .user;
       pairs = pairs;
+      day = h .day;
     }
+
+-- the same header of this day
+abbrev pub onDay : ℕ → Header → Header
+onDay day h = headerIn h (h .version) day
 
 -- a relation: owner, set
 abbrev pub aRelation : ℕ → ℕ → Relation
 aRelation owner set = record { owner = owner; set = set }
 
--- a grant: relation, subject, set in clear, set sealed
+-- a grant for every day: relation, subject, set in clear, set sealed
 abbrev pub aGrant : ℕ → ℕ → ℕ → ℕ → Grant
-aGrant relation subject clear sealed = record { relation = relation; subject = subject; clear = clear; sealed = sealed }
+aGrant relation subject clear sealed = record { relation = relation; subject = subject; first = 0; last = 65535; clear = clear; sealed = sealed }
+
+-- the same grant from a first to a last day
+abbrev pub lasting : ℕ → ℕ → Grant → Grant
+lasting first last g = record { relation = g .relation; subject = g .subject; first = first; last = last; clear = g .clear; sealed = g .sealed }
 
 -- a node of size 1 that names no pairs, its spare bytes 0: kind, left, right, x, y, set, needed in clear
 abbrev pub aNode : ℕ → ℕ → ℕ → ℕ → ℕ → ℕ → ℕ → Node
@@ -104,10 +115,6 @@ abbrev pub withRelations : List Relation → Values → Values
 withRelations rs vs =
     record { header = vs .header; relations = rs; grants = vs .grants; nodes = vs .nodes; pairs = vs .pairs; stepPrices = vs .stepPrices; linkPrices = vs .linkPrices }
 
-abbrev pub withGrants : List Grant → Values → Values
-withGrants gs vs =
-    record { header = vs .header; relations = vs .relations; grants = gs; nodes = vs .nodes; pairs = vs .pairs; stepPrices = vs .stepPrices; linkPrices = vs .linkPrices }
-
 abbrev pub withPairs : List ℕ → Values → Values
 withPairs qs vs =
     record {
@@ -144,7 +151,7 @@ unlikeValues =
     record {
       header = aHeader 1 3 2 7 5 4 6 0;
       relations = replicate 2 noRelation;
-      grants = replicate 4 noGrant;
+      grants = replicate 4 (aGrant 0 0 0 0);
       nodes = replicate 5 noNode;
       pairs = [];
       stepPrices = replicate 15 0;
@@ -171,3 +178,12 @@ aPairing first count needed = naming first count (aNode 9 0 1 255 255 0 needed)
 -- on the second and the third of three pairs
 abbrev pub pairedValues : ℕ → Values
 pairedValues needed = pairingValues 3 (aPairing 1 2 needed) threePairs
+
+-- the small file's in version 4, on this day: owners see their own on day 5 only, and any sees all sealed from day 3 to 5 and nothing from day 6 to 9
+abbrev pub datedValues : ℕ → Values
+datedValues day =
+    withHeader (onDay day (aHeader 4 2 2 2 4 6 6 1))
+    (withGrants
+    (lasting 5 5 (aGrant 0 0 1 0) ∷ lasting 5 5 (aGrant 1 1 2 0) ∷ lasting 3 5 (aGrant 0 255 0 1) ∷ lasting 3 5 (aGrant 1 255 0 2)
+    ∷ lasting 6 9 (aGrant 0 255 0 0) ∷ lasting 6 9 (aGrant 1 255 0 0) ∷ [])
+    smallValues)

@@ -11,7 +11,7 @@ use Rattle.night.specs.declared.Grant.{Grant}
 use Rattle.night.specs.declared.Node.{Node}
 use Rattle.night.specs.Night.{Night}
 use Rattle.format.specs.Layout.{pairsFrom, pairsIn, stepPricesFrom, linkPricesFrom, headerOf, headerBytes, asRead}
-use Rattle.format.specs.Layout.{relationBytes, grantBytes, nodeBytes, nodeAsRead, pairAt, nightOf}
+use Rattle.format.specs.Layout.{relationBytes, grantBytes, grantAsRead, nodeBytes, nodeAsRead, pairAt, nightOf}
 
 -- the header's values, the records in the file's order, the pairs as they stand in it, two bytes each, and the prices, row after row
 pub record Values : Type 0 where
@@ -27,13 +27,13 @@ pub record Values : Type 0 where
 unfoldable pub rowsOf : List ℕ → ℕ → ℕ → List (List ℕ)
 rowsOf prices rows columns = each rows (λ i. each columns (λ p. getD prices (i * columns + p) 0))
 
--- the night that the values are: header and nodes as they are read
+-- the night that the values are: header, grants and nodes as they are read
 unfoldable pub nightFrom : Values → Night
 nightFrom vs =
     record {
       header = asRead (vs .header);
       relations = vs .relations;
-      grants = vs .grants;
+      grants = map (grantAsRead (vs .header .version)) (vs .grants);
       nodes = map (nodeAsRead (vs .header .version)) (vs .nodes);
       pairs = each (pairsIn (vs .header)) (λ i. pairAt (vs .pairs) (2 * i));
       stepPrices = rowsOf (vs .stepPrices) (vs .header .nodes) (vs .header .subjects);
@@ -45,7 +45,7 @@ unfoldable pub fileBytes : Values → List ℕ
 fileBytes vs =
     headerBytes (vs .header)
     ++ (inOrder relationBytes (vs .relations)
-    ++ (inOrder grantBytes (vs .grants)
+    ++ (inOrder (grantBytes (vs .header .version)) (vs .grants)
     ++ (inOrder (nodeBytes (vs .header .version)) (vs .nodes)
     ++ (vs .pairs
     ++ (inOrder (bytes 4) (vs .stepPrices)
@@ -98,6 +98,21 @@ withNodes ns vs =
       linkPrices = vs .linkPrices;
     }
 
--- values as they are read back: all of them, header and nodes as they are read
+-- with other grants
+abbrev pub withGrants : List Grant → Values → Values
+withGrants gs vs =
+    record {
+      header = vs .header;
+      relations = vs .relations;
+      grants = gs;
+      nodes = vs .nodes;
+      pairs = vs .pairs;
+      stepPrices = vs .stepPrices;
+      linkPrices = vs .linkPrices;
+    }
+
+-- values as they are read back: all of them, header, grants and nodes as they are read
 unfoldable pub readAs : Values → Values
-readAs vs = withHeader (asRead (vs .header)) (withNodes (map (nodeAsRead (vs .header .version)) (vs .nodes)) vs)
+readAs vs =
+    withHeader (asRead (vs .header))
+    (withGrants (map (grantAsRead (vs .header .version)) (vs .grants)) (withNodes (map (nodeAsRead (vs .header .version)) (vs .nodes)) vs))

@@ -11,12 +11,15 @@ use Rattle.night.specs.declared.Relation.{Relation}
 use Rattle.night.specs.declared.Grant.{Grant}
 use Rattle.night.specs.declared.Node.{Node}
 use Rattle.night.specs.declared.Pair.{Pair}
+use Rattle.night.specs.Days.{inVersion}
 use Rattle.format.specs.Layout.{nightOf}
 use Rattle.trials.specs.Small.{small, withUser, grantByte, threePairs, paired}
-use Rattle.writes.specs.Values.{withHeader, withNodes, Values, rowsOf, nightFrom, fileBytes, valuesOf}
+use Rattle.writes.specs.Values.{withHeader, withGrants, withNodes, Values, rowsOf, nightFrom, fileBytes, valuesOf, readAs}
 use Rattle.writes.specs.Writing.{miscounted, writeOf, roomAfter, rewriteOf}
-use Rattle.writes.specs.Small.{aHeader, counting, aRelation, aGrant, aNode, naming, smallValues, pricedFile, pricedValues, unlikeFile, unlikeValues}
-use Rattle.writes.specs.Small.{withRelations, withGrants, withPairs, withSteps, withLinks, aPairing, pairingValues, pairedValues}
+use Rattle.writes.specs.Days.{asFour}
+use Rattle.writes.specs.Small.{aHeader, counting, onDay, aRelation, aGrant, lasting, aNode, naming}
+use Rattle.writes.specs.Small.{smallValues, pricedFile, pricedValues, unlikeFile, unlikeValues}
+use Rattle.writes.specs.Small.{withRelations, withPairs, withSteps, withLinks, aPairing, pairingValues, pairedValues, datedValues}
 
 -- the small values with another header
 abbrev pub headed : Header → Values
@@ -49,6 +52,10 @@ countedInTwo = headed (counting 1 (aHeader 2 2 2 2 4 4 6 1))
 abbrev pub namedInTwo : Values
 namedInTwo = withNodes (set (smallValues .nodes) 3 (naming 1 2 (aNode 2 2 255 0 255 0 1))) (inTwo 1)
 
+-- the same, with a night's day, and a grant that would end before it begins, of which version 2 has neither
+abbrev pub datedInTwo : Values
+datedInTwo = withHeader (onDay 7 (aHeader 2 2 2 2 4 4 6 1)) (granted 2 (lasting 6 5 (aGrant 0 255 0 1)))
+
 -- a pair: left's attribute, right's
 abbrev pub aPair : ℕ → ℕ → Pair
 aPair left right = record { left = left; right = right }
@@ -72,6 +79,7 @@ pub record WriteVerdicts : Type 0 where
   pub values-prices : valuesOf pricedFile ≡ pricedValues
   pub values-pairs : valuesOf (paired 0) ≡ pairedValues 0
   pub values-own : valuesOf unlikeFile ≡ unlikeValues
+  pub values-days : valuesOf (fileBytes (datedValues 5)) ≡ datedValues 5
   -- the night of values: a row for each node or sender, of as many prices as there are subjects
   pub night-same : nightFrom smallValues ≡ nightOf small
   pub night-steps : nightFrom pricedValues .stepPrices ≡ (1 ∷ 2 ∷ []) ∷ (3 ∷ 4 ∷ []) ∷ (5 ∷ 6 ∷ []) ∷ (7 ∷ 8 ∷ []) ∷ []
@@ -81,11 +89,13 @@ pub record WriteVerdicts : Type 0 where
   pub night-paired : nightFrom (pairedValues 0) ≡ nightOf (paired 0)
   pub night-pairs : nightFrom (pairedValues 0) .pairs ≡ aPair 200 64 ∷ aPair 0 2 ∷ aPair 1 3 ∷ []
   pub rows-and-columns : rowsOf (1 ∷ 2 ∷ 3 ∷ 4 ∷ 5 ∷ 6 ∷ []) 2 3 ≡ (1 ∷ 2 ∷ 3 ∷ []) ∷ (4 ∷ 5 ∷ 6 ∷ []) ∷ []
-  -- a user, a number of pairs, and the pairs that a node names are read as 0 in a version that has none
+  -- a user, a number of pairs, a day, and the pairs that a node names are read as 0 in a version that has none; a grant as one for every day
   pub night-user : nightFrom (headed (aHeader 1 2 2 2 4 4 6 9)) ≡ nightOf small
   pub night-counted : nightFrom countedInTwo ≡ nightOf (withUser 1 small)
   pub night-named : nightFrom namedInTwo ≡ nightOf (withUser 1 small)
-  -- the bytes of the file: its sections in order; in version 2 with the user, in version 1 without, whatever its value; before version 3 without what names pairs
+  pub night-dated : nightFrom datedInTwo ≡ nightOf (withUser 1 small)
+  -- the bytes of the file: its sections in order; in version 2 with the user, in version 1 without, whatever its value; before version 3 without what names pairs,
+  -- before version 4 without days
   pub file-bytes : fileBytes smallValues ≡ small
   pub file-prices : fileBytes pricedValues ≡ pricedFile
   pub file-own : fileBytes unlikeValues ≡ unlikeFile
@@ -94,6 +104,7 @@ pub record WriteVerdicts : Type 0 where
   pub file-pairs : fileBytes (pairedValues 0) ≡ paired 0
   pub file-counted : fileBytes countedInTwo ≡ withUser 1 small
   pub file-named : fileBytes namedInTwo ≡ withUser 1 small
+  pub file-dated : fileBytes datedInTwo ≡ withUser 1 small
   -- written: into a room of just the file's bytes, and of more; a user that version 1 doesn't have is not looked at
   pub written : writeOf smallValues 265 ≡ answers 265
   pub written-more : writeOf smallValues 300 ≡ answers 265
@@ -105,15 +116,23 @@ pub record WriteVerdicts : Type 0 where
   pub written-no-pairs : writeOf (headed (aHeader 3 2 2 2 4 4 6 1)) 275 ≡ answers 275
   pub written-counted : writeOf countedInTwo 266 ≡ answers 266
   pub written-named : writeOf namedInTwo 266 ≡ answers 266
-  -- and are read back as 0
+  -- in version 4 with days; in version 2 the night's day and a grant's days are not looked at
+  pub written-days : writeOf (datedValues 5) 337 ≡ answers 337
+  pub written-dated : writeOf datedInTwo 266 ≡ answers 266
+  -- and are read back as 0, a grant's last day as 65535
   pub counted-back : valuesOf (fileBytes countedInTwo) ≡ inTwo 1
   pub named-back : valuesOf (fileBytes namedInTwo) ≡ inTwo 1
+  pub dated-back : valuesOf (fileBytes datedInTwo) ≡ inTwo 1
+  pub dated-as : readAs datedInTwo ≡ inTwo 1
+  -- a file of version 3, its values written in version 4: the same night, of that day; two bytes more for the day and four for each of four grants
+  pub night-four : nightOf (asFour 7 (paired 0)) ≡ inVersion (nightOf (paired 0)) 4 7
+  pub length-four : length (asFour 7 (paired 0)) ≡ 261
   -- 2: a version that isn't known; before 4
   pub version-none : Refused (headed (aHeader 0 2 2 2 4 4 6 0)) 2 0
-  pub version-other : Refused (headed (aHeader 4 2 2 2 4 4 6 0)) 2 0
+  pub version-other : Refused (headed (aHeader 5 2 2 2 4 4 6 0)) 2 0
   pub version-high : Refused (headed (aHeader 256 2 2 2 4 4 6 0)) 2 0
   pub version-high-one : Refused (headed (aHeader 257 2 2 2 4 4 6 0)) 2 0
-  pub version-before-counts : Refused (headed (aHeader 4 0 2 2 4 4 6 0)) 2 0
+  pub version-before-counts : Refused (headed (aHeader 5 0 2 2 4 4 6 0)) 2 0
   -- 4: a count outside its limits, which no list here meets; a user not below s; before 3
   pub subjects-none : Refused (headed (aHeader 1 0 2 2 4 4 6 0)) 4 0
   pub relations-many : Refused (headed (aHeader 1 2 17 2 4 4 6 0)) 4 0
@@ -156,6 +175,11 @@ pub record WriteVerdicts : Type 0 where
   -- 6: a grant's relation; a pair seen before
   pub grant-relation : Refused (granted 2 (aGrant 2 255 0 1)) 6 2
   pub pair-seen : Refused (granted 3 (aGrant 0 255 0 1)) 6 3
+  -- 6: a grant that ends before it starts; a pair seen before with a day in common
+  pub days-turned : Refused (withGrants (set (datedValues 5 .grants) 4 (lasting 7 6 (aGrant 0 255 0 0))) (datedValues 5)) 6 4
+  pub days-met : Refused (withGrants (set (datedValues 5 .grants) 4 (lasting 5 9 (aGrant 0 255 0 0))) (datedValues 5)) 6 4
+  -- 7: an owner whose grant is not in force on the night's day
+  pub owner-late : Refused (datedValues 6) 7 0
   -- 7: an owner's view of its own relation isn't all clear; before 8
   pub owner-blind : Refused (granted 1 (aGrant 1 1 0 0)) 7 1
   pub owners-before-nodes : Refused (withGrants (set (smallValues .grants) 1 (aGrant 1 1 0 0)) (noded 0 (aNode 9 255 255 0 255 1 0))) 7 1
@@ -206,9 +230,10 @@ pub record WriteVerdicts : Type 0 where
   pub room-none : writeOf smallValues 0 ≡ refuses 15 4
   pub room-user-short : writeOf (inTwo 1) 265 ≡ refuses 15 4
   pub room-pairs-short : writeOf (pairedValues 0) 242 ≡ refuses 15 4
+  pub room-days-short : writeOf (datedValues 5) 336 ≡ refuses 15 4
   pub room-no-pairs-short : writeOf (headed (aHeader 3 2 2 2 4 4 6 1)) 274 ≡ refuses 15 4
   -- last of all: after 2, 4, 3, 5, 7, 10 and 11
-  pub version-before-room : writeOf (headed (aHeader 4 2 2 2 4 4 6 0)) 0 ≡ refuses 2 0
+  pub version-before-room : writeOf (headed (aHeader 5 2 2 2 4 4 6 0)) 0 ≡ refuses 2 0
   pub counts-before-room : writeOf (inTwo 2) 0 ≡ refuses 4 0
   pub lists-before-room : writeOf (withLinks [] smallValues) 0 ≡ refuses 3 0
   pub relations-before-room : writeOf (related 0 (aRelation 0 0)) 0 ≡ refuses 5 0
@@ -221,18 +246,20 @@ pub record WriteVerdicts : Type 0 where
   pub room-after-user : after (inTwo 1) (replicate 265 7 ++ (8 ∷ 9 ∷ [])) ≡ withUser 1 small ++ (9 ∷ [])
   pub room-after-pairs : after (pairedValues 0) (replicate 243 7 ++ (8 ∷ 9 ∷ [])) ≡ paired 0 ++ (8 ∷ 9 ∷ [])
   pub room-kept : after smallValues (replicate 264 7) ≡ replicate 264 7
-  pub room-kept-version : after (headed (aHeader 4 2 2 2 4 4 6 0)) (replicate 267 7) ≡ replicate 267 7
+  pub room-kept-version : after (headed (aHeader 5 2 2 2 4 4 6 0)) (replicate 267 7) ≡ replicate 267 7
   pub room-kept-price : after (linked 3 1) (replicate 267 7) ≡ replicate 267 7
   -- a file's values written again
   pub again : rewriteOf small 265 ≡ answers 265
   pub again-more : rewriteOf small 300 ≡ answers 265
   pub again-user : rewriteOf (withUser 1 small) 266 ≡ answers 266
   pub again-pairs : rewriteOf (paired 0) 243 ≡ answers 243
+  pub again-days : rewriteOf (fileBytes (datedValues 5)) 337 ≡ answers 337
   -- 1, 2, 3, 4 and 3 as by reading; before 15
   pub again-mark : RefusedAgain (set small 2 81) 1 0
-  pub again-version : RefusedAgain (set small 4 4) 2 0
+  pub again-version : RefusedAgain (set small 4 5) 2 0
   pub again-header : RefusedAgain (take 14 small) 3 0
   pub again-header-pairs : RefusedAgain (take 16 (paired 0)) 3 0
+  pub again-header-days : RefusedAgain (take 18 (fileBytes (datedValues 5))) 3 0
   pub again-counts : RefusedAgain (set small 8 65) 4 0
   pub again-fewer : RefusedAgain (take 264 small) 3 0
   pub again-more-bytes : RefusedAgain (small ++ (0 ∷ [])) 3 0

@@ -53,6 +53,8 @@ pub(crate) fn no_grant() -> Grant
     Grant {
         relation: 0,
         subject: 0,
+        first: 0,
+        last: 0,
         clear: 0,
         sealed: 0,
     }

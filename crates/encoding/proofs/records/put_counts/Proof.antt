@@ -6,27 +6,21 @@ use Rattle.encoding.proofs.records.put_counts.Tie as tie
 use Rattle.encoding.proofs.records.put_counts.Reads as reads
 use Rattle.encoding.proofs.records.put_counts.Lts as lts
 
--- src/records.rt:45:5
 slice-write-room : tie.Need-slice-write-room
 slice-write-room c = search needs
 
--- src/records.rt:46:5
 slice-write-room-2 : tie.Need-slice-write-room-2
 slice-write-room-2 c = simp length-set (omega arith)
 
--- src/records.rt:47:5
 slice-write-room-3 : tie.Need-slice-write-room-3
 slice-write-room-3 c = simp length-set (omega arith)
 
--- src/records.rt:48:5
 slice-write-room-4 : tie.Need-slice-write-room-4
 slice-write-room-4 c = search needs
 
--- src/records.rt:41:1
 same-length : tie.Need-same-length
 same-length c = search needs
 
--- src/records.rt:41:1
 returns : tie.Need-returns
 returns c = search needs
 

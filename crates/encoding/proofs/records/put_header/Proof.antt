@@ -1,5 +1,6 @@
 use Rattle.format.proofs.Written.{header-least}
-use Rattle.encoding.proofs.Put.{header-put}
+use Rattle.encoding.proofs.Put.{header-put, kept-long}
+use mathlib.Core.Path.{_∙_}
 use native.Mathlib.Omega.{arith}
 use borrow.Author.Needs.{needs}
 use Rattle.encoding.proofs.records.put_header.Statement.{statement}
@@ -12,54 +13,46 @@ use Rattle.encoding.proofs.records.put_counts.Reads as put-counts-reads
 use Rattle.encoding.proofs.records.put_mark.Reads as put-mark-reads
 use Rattle.encoding.proofs.records.put_last.Reads as put-last-reads
 
--- src/records.rt:22:5
 put-mark-requires : tie.Need-put-mark-requires
 put-mark-requires c κs = omega (arith, header-least (c .before .before .args .h .version))
 
--- src/records.rt:23:31
 cast-put-two : tie.Need-cast-put-two
 cast-put-two c = search needs
 
--- src/records.rt:23:5
 put-two-requires : tie.Need-put-two-requires
 put-two-requires c κs = omega (arith, header-least (c .before .before .before .before .before .before .before .args .h .version))
 
--- src/records.rt:24:5
 put-counts-requires : tie.Need-put-counts-requires
 put-counts-requires c κs = omega (arith, header-least (c .before .before .before .before .before .before .before .before .before .before .before .args .h .version))
 
--- src/records.rt:25:31
 cast-put-two-2 : tie.Need-cast-put-two-2
 cast-put-two-2 c = search needs
 
--- src/records.rt:25:5
 put-two-requires-2 : tie.Need-put-two-requires-2
 put-two-requires-2 c κs = omega (arith, header-least (c .before .before .before .before .before .before .before .before .before .before .before .before .before .before .before .before .args .h .version))
 
--- src/records.rt:26:33
 cast-put-four : tie.Need-cast-put-four
 cast-put-four c = search needs
 
--- src/records.rt:26:5
 put-four-requires : tie.Need-put-four-requires
 put-four-requires c κs = omega (arith, header-least (c .before .before .before .before .before .before .before .before .before .before .before .before .before .before .before .before .before .before .before .before .before .args .h .version))
 
--- src/records.rt:27:5
 put-last-requires : tie.Need-put-last-requires
 put-last-requires c κs = omega (arith, c .before .before .before .before .before .before .before .before .before .before .before .before .before .before .before .before .before .before .before .before .before .before .before .before .before .pre)
 
--- src/records.rt:18:1
 same-length : tie.Need-same-length
-same-length c = search needs
+same-length c =
+    kept-long (c .before .before .put-last .ensures)
+    ∙ (kept-long (c .before .before .before .before .before .before .put-four .ensures)
+    ∙ (kept-long (c .before .before .before .before .before .before .before .before .before .before .before .put-two2 .ensures) ∙ (kept-long (c .before .before .before .before .before .before .before .before .before .before .before .before .before .before .before .before .put-counts .ensures) ∙ (kept-long (c .before .before .before .before .before .before .before .before .before .before .before .before .before .before .before .before .before .before .before .before .put-two .ensures) ∙ kept-long (c .before .before .before .before .before .before .before .before .before .before .before .before .before .before .before .before .before .before .before .before .before .before .before .before .before .put-mark .ensures)))))
 
--- src/records.rt:18:1
 returns : tie.Need-returns
 returns c =
     let mark = c .before .before .before .before .before .before .before .before .before .before .before .before .before .before .before .before .before .before .before .before .before .before .before .before .before in
     let h = mark .before .before .before .args .h in (
       header-put h (mark .put-mark .ensures) (c .before .before .before .before .before .before .before .before .before .before .before .before .before .before .before .before .before .before .before .before .put-two .ensures) (c .before .before .before .before .before .before .before .before .before .before .before .before .before .before .before .before .put-counts .ensures) (c .before .before .before .before .before .before .before .before .before .before .before .put-two2 .ensures) (c .before .before .before .before .before .before .put-four .ensures)
           (c .before .before .put-last .ensures),
-      record { version = omega arith; grants = omega arith; steps = omega arith },
+      record { version = omega arith; grants = omega arith; steps = omega arith; day = c .before .before .before .before .before .before .before .struct-known3 .given .1 .1 .1 .1 .1 .1 .1 .1 .1 .0 .fits },
     )
 
 pub put-header-spec : {M : Type 1} → statement M

@@ -6,23 +6,18 @@ use Rattle.encoding.proofs.records.put_mark.Tie as tie
 use Rattle.encoding.proofs.records.put_mark.Reads as reads
 use Rattle.encoding.proofs.records.put_mark.Lts as lts
 
--- src/records.rt:35:5
 slice-write-room : tie.Need-slice-write-room
 slice-write-room c = search needs
 
--- src/records.rt:36:5
 slice-write-room-2 : tie.Need-slice-write-room-2
 slice-write-room-2 c = simp length-set (omega arith)
 
--- src/records.rt:37:5
 slice-write-room-3 : tie.Need-slice-write-room-3
 slice-write-room-3 c = search needs
 
--- src/records.rt:31:1
 same-length : tie.Need-same-length
 same-length c = search needs
 
--- src/records.rt:31:1
 returns : tie.Need-returns
 returns c = search needs
 

@@ -10,37 +10,29 @@ use Rattle.encoding.proofs.records.put_names.Reads as reads
 use Rattle.encoding.proofs.records.put_names.Lts as lts
 use Rattle.night.proofs.versions.has_pairs.Reads as has-pairs-reads
 
--- src/records.rt:105:8
 has-pairs-requires : tie.Need-has-pairs-requires
 has-pairs-requires c κs = search needs
 
--- src/records.rt:106:14
 add-room : tie.Need-add-room
 add-room c = search needs
 
--- src/records.rt:106:9
 slice-write-room : tie.Need-slice-write-room
 unfolding nodeLength
 slice-write-room c = omega (arith, rw (← c .before .has-pairs .ensures, c .if1 .taken) at (c .before .before .before .pre))
 
--- src/records.rt:107:14
 add-room-2 : tie.Need-add-room-2
 add-room-2 c = search needs
 
--- src/records.rt:107:9
 slice-write-room-2 : tie.Need-slice-write-room-2
 unfolding nodeLength
 slice-write-room-2 c = simp length-set (omega (arith, rw (← c .before .has-pairs .ensures, c .if1 .taken) at (c .before .before .before .pre)))
 
--- src/records.rt:108:9
 same-length : tie.Need-same-length
 same-length c = search needs
 
--- src/records.rt:108:9
 returns : tie.Need-returns
 returns c = names-put _ _ _ _ _ (sym (c .before .has-pairs .ensures) ∙ c .if1 .taken)
 
--- src/records.rt:101:1
 returns-2 : tie.Need-returns-2
 returns-2 c = no-names-put _ _ _ _ _ (sym (c .before .has-pairs .ensures) ∙ c .if1 .left)
 

@@ -11,47 +11,36 @@ use Rattle.encoding.proofs.numbers.put_four.Reads as put-four-reads
 use Rattle.encoding.proofs.records.put_names.Reads as put-names-reads
 use Rattle.encoding.proofs.records.put_start.Reads as put-start-reads
 
--- src/records.rt:93:5
 put-start-requires : tie.Need-put-start-requires
 put-start-requires c κs = omega (arith, node-least (c .before .before .args .version))
 
--- src/records.rt:94:30
 add-put-eight : tie.Need-add-put-eight
 add-put-eight c = search needs
 
--- src/records.rt:94:5
 put-eight-requires : tie.Need-put-eight-requires
 put-eight-requires c κs = omega (arith, node-least (c .before .before .before .before .before .before .args .version))
 
--- src/records.rt:95:30
 add-put-eight-2 : tie.Need-add-put-eight-2
 add-put-eight-2 c = search needs
 
--- src/records.rt:95:5
 put-eight-requires-2 : tie.Need-put-eight-requires-2
 put-eight-requires-2 c κs = omega (arith, node-least (c .before .before .before .before .before .before .before .before .before .before .args .version))
 
--- src/records.rt:96:29
 add-put-four : tie.Need-add-put-four
 add-put-four c = search needs
 
--- src/records.rt:96:38
 cast-put-four : tie.Need-cast-put-four
 cast-put-four c = search needs
 
--- src/records.rt:96:5
 put-four-requires : tie.Need-put-four-requires
 put-four-requires c κs = omega (arith, node-least (c .before .before .before .before .before .before .before .before .before .before .before .before .before .before .before .args .version))
 
--- src/records.rt:97:5
 put-names-requires : tie.Need-put-names-requires
 put-names-requires c κs = search needs
 
--- src/records.rt:89:1
 same-length : tie.Need-same-length
 same-length c = search needs
 
--- src/records.rt:89:1
 returns : tie.Need-returns
 returns c =
     let start = c .before .before .before .before .before .before .before .before .before .before .before .before .before .before .before .before .before .before .before in

@@ -9,23 +9,18 @@ use Rattle.encoding.proofs.records.put_relation.Reads as reads
 use Rattle.encoding.proofs.records.put_relation.Lts as lts
 use Rattle.encoding.proofs.numbers.put_eight.Reads as put-eight-reads
 
--- src/records.rt:73:5
 slice-write-room : tie.Need-slice-write-room
 slice-write-room c = search needs
 
--- src/records.rt:74:30
 add-put-eight : tie.Need-add-put-eight
 add-put-eight c = search needs
 
--- src/records.rt:74:5
 put-eight-requires : tie.Need-put-eight-requires
 put-eight-requires c κs = simp length-set (omega arith)
 
--- src/records.rt:69:1
 same-length : tie.Need-same-length
 same-length c = kept-long (c .before .before .put-eight .ensures) ∙ simp length-set
 
--- src/records.rt:69:1
 returns : tie.Need-returns
 returns c = (relation-put _ (c .before .before .put-eight .ensures), omega arith)
 

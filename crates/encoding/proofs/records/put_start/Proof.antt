@@ -7,71 +7,54 @@ use Rattle.encoding.proofs.records.put_start.Tie as tie
 use Rattle.encoding.proofs.records.put_start.Reads as reads
 use Rattle.encoding.proofs.records.put_start.Lts as lts
 
--- src/records.rt:117:5
 slice-write-room : tie.Need-slice-write-room
 slice-write-room c = search needs
 
--- src/records.rt:118:10
 add-room : tie.Need-add-room
 add-room c = search needs
 
--- src/records.rt:118:5
 slice-write-room-2 : tie.Need-slice-write-room-2
 slice-write-room-2 c = simp length-set (omega arith)
 
--- src/records.rt:119:10
 add-room-2 : tie.Need-add-room-2
 add-room-2 c = search needs
 
--- src/records.rt:119:5
 slice-write-room-3 : tie.Need-slice-write-room-3
 slice-write-room-3 c = simp length-set (omega arith)
 
--- src/records.rt:120:10
 add-room-3 : tie.Need-add-room-3
 add-room-3 c = search needs
 
--- src/records.rt:120:5
 slice-write-room-4 : tie.Need-slice-write-room-4
 slice-write-room-4 c = simp length-set (omega arith)
 
--- src/records.rt:121:10
 add-room-4 : tie.Need-add-room-4
 add-room-4 c = search needs
 
--- src/records.rt:121:5
 slice-write-room-5 : tie.Need-slice-write-room-5
 slice-write-room-5 c = simp length-set (omega arith)
 
--- src/records.rt:122:10
 add-room-5 : tie.Need-add-room-5
 add-room-5 c = search needs
 
--- src/records.rt:122:5
 slice-write-room-6 : tie.Need-slice-write-room-6
 slice-write-room-6 c = simp length-set (omega arith)
 
--- src/records.rt:123:10
 add-room-6 : tie.Need-add-room-6
 add-room-6 c = search needs
 
--- src/records.rt:123:5
 slice-write-room-7 : tie.Need-slice-write-room-7
 slice-write-room-7 c = simp length-set (omega arith)
 
--- src/records.rt:124:10
 add-room-7 : tie.Need-add-room-7
 add-room-7 c = search needs
 
--- src/records.rt:124:5
 slice-write-room-8 : tie.Need-slice-write-room-8
 slice-write-room-8 c = simp length-set (omega arith)
 
--- src/records.rt:113:1
 same-length : tie.Need-same-length
 same-length c = search needs
 
--- src/records.rt:113:1
 returns : tie.Need-returns
 returns c = start-put (c .args .v) _ _
 

@@ -29,33 +29,26 @@ Inv-loop room₀ at n version nodes i₀ room i = (i ≤ n) × (length room ≡ 
 abbrev μ-loop : tie.MeasureT-loop
 μ-loop room₀ at n version nodes i₀ room i = n - i
 
--- src/sections.rt:70:5
 loop-holds : tie.Need-loop-holds Inv-loop μ-loop
 loop-holds c =
     let a = c .before .args in
     (omega arith, refl, none-yet (nodeBytes (a .version)) NodeFits (entry (a .t3)) _ _)
 
--- src/sections.rt:71:17
 mul-v : tie.Need-mul-v Inv-loop μ-loop
 mul-v c = omega arith
 
--- src/sections.rt:71:17
 array-copy-out-v : tie.Need-array-copy-out-v Inv-loop μ-loop
 array-copy-out-v c = omega arith
 
--- src/sections.rt:72:54
 cast-nodes-length : tie.Need-cast-nodes-length Inv-loop μ-loop
 cast-nodes-length c = omega arith
 
--- src/sections.rt:72:13
 nodes-length-requires : tie.Need-nodes-length-requires Inv-loop μ-loop
 nodes-length-requires c κs = tt
 
--- src/sections.rt:73:33
 add-put-node : tie.Need-add-put-node Inv-loop μ-loop
 add-put-node c = omega arith
 
--- src/sections.rt:73:9
 put-node-requires : tie.Need-put-node-requires Inv-loop μ-loop
 put-node-requires c κs =
     let v = c .before .nodes-length in
@@ -63,15 +56,12 @@ put-node-requires c κs =
     let a = b .before .before .args in
     omega (arith, v .ensures .0, entry-ends (nodeLength (a .version)) (a .n) (b .loop .i) (omega arith))
 
--- src/sections.rt:74:9
 add-i : tie.Need-add-i Inv-loop μ-loop
 add-i c = omega arith
 
--- src/sections.rt:70:5
 loop-less : tie.Need-loop-less Inv-loop μ-loop
 loop-less c = omega arith
 
--- src/sections.rt:70:5
 loop-again : tie.Need-loop-again Inv-loop μ-loop
 loop-again c =
     let v = c .before .before .before .before .nodes-length in
@@ -80,11 +70,9 @@ loop-again c =
     let put = rw (v .ensures .0) at (c .before .before .put-node .ensures) in
     (omega arith, kept-long (put .0) ∙ b .loop .inv .1, one-more (nodeBytes (a .version)) NodeFits (entry (a .t3)) (nodeLength (a .version)) (node-long (a .version)) (b .loop .inv .2) (put .0) (put .1))
 
--- src/sections.rt:58:1
 same-length : tie.Need-same-length Inv-loop μ-loop
 same-length c = c .before .loop .inv .1
 
--- src/sections.rt:58:1
 returns : tie.Need-returns Inv-loop μ-loop
 returns c =
     let b = c .before .loop in

@@ -17,41 +17,32 @@ Inv-loop room₀ at pairs i₀ room i = (i ≤ length pairs) × (length room ≡
 abbrev μ-loop : tie.MeasureT-loop
 μ-loop room₀ at pairs i₀ room i = length pairs - i
 
--- src/sections.rt:84:5
 loop-holds : tie.Need-loop-holds Inv-loop μ-loop
 loop-holds c = (omega arith, refl, record { all = refl })
 
--- src/sections.rt:85:24
 shared-slice-read-room : tie.Need-shared-slice-read-room Inv-loop μ-loop
 shared-slice-read-room c = omega arith
 
--- src/sections.rt:85:14
 add-room : tie.Need-add-room Inv-loop μ-loop
 add-room c = omega arith
 
--- src/sections.rt:85:9
 slice-write-room : tie.Need-slice-write-room Inv-loop μ-loop
 slice-write-room c = omega arith
 
--- src/sections.rt:86:9
 add-i : tie.Need-add-i Inv-loop μ-loop
 add-i c = omega arith
 
--- src/sections.rt:84:5
 loop-less : tie.Need-loop-less Inv-loop μ-loop
 loop-less c = omega arith
 
--- src/sections.rt:84:5
 loop-again : tie.Need-loop-again Inv-loop μ-loop
 loop-again c =
     let b = c .before .before in
     (omega arith, rw length-set (b .loop .inv .1), byte-more _ (omega arith) (b .loop .inv .2))
 
--- src/sections.rt:79:1
 same-length : tie.Need-same-length Inv-loop μ-loop
 same-length c = c .before .loop .inv .1
 
--- src/sections.rt:79:1
 returns : tie.Need-returns Inv-loop μ-loop
 returns c =
     let b = c .before .loop in

@@ -1,4 +1,4 @@
--- The grants stand before the nodes; a count of grants is below 65,536.
+-- The grants stand before the nodes.
 use borrow.Author.Needs.{needs}
 use native.Mathlib.Omega.{arith}
 use Rattle.format.specs.Layout.{nodesFrom}
@@ -8,11 +8,8 @@ use Rattle.layout.proofs.places.nodes_from.Tie as tie
 grants-from-requires : tie.Need-grants-from-requires
 grants-from-requires c κs = search needs
 
-cast-result : tie.Need-cast-result
-cast-result c = search needs
-
-mul-result : tie.Need-mul-result
-mul-result c = search needs
+grants-length-requires : tie.Need-grants-length-requires
+grants-length-requires c κs = search needs
 
 add-result : tie.Need-add-result
 add-result c = search needs
@@ -22,5 +19,4 @@ unfolding nodesFrom
 returns c = (omega arith, omega arith)
 
 pub nodes-from-spec : {M : Type 1} → statement M
-nodes-from-spec =
-    tie.close (tie.spec grants-from-requires cast-result mul-result add-result returns)
+nodes-from-spec = tie.close (tie.spec grants-from-requires grants-length-requires add-result returns)

@@ -19,8 +19,11 @@ returns c =
 grants-from-requires : tie.Need-grants-from-requires
 grants-from-requires c κs = search needs
 
-mul-grant-at : tie.Need-mul-grant-at
-mul-grant-at c = search needs
+cast-grants-length : tie.Need-cast-grants-length
+cast-grants-length c = search needs
+
+grants-length-requires : tie.Need-grants-length-requires
+grants-length-requires c κs = search needs
 
 add-grant-at : tie.Need-add-grant-at
 add-grant-at c = search needs
@@ -30,8 +33,8 @@ grant-at-requires c κs = search needs
 
 returns-2 : tie.Need-returns-2
 returns-2 c =
-    let a = c .before .before .before .before .before .args in
-    grant-read (now (a .file)) (a .h) (a .i) (omega arith) (c .before .grants-from .ensures .0) (c .grant-at .ensures)
+    let a = c .before .before .before .before .before .before .args in
+    grant-read (now (a .file)) (a .h) (a .i) (omega arith) (c .before .before .grants-from .ensures .0) (c .before .grants-length .ensures .0) (c .grant-at .ensures)
 
 pub grant-spec : {M : Type 1} → statement M
 grant-spec =
@@ -40,7 +43,8 @@ grant-spec =
     cast-if1
     returns
     grants-from-requires
-    mul-grant-at
+    cast-grants-length
+    grants-length-requires
     add-grant-at
     grant-at-requires
     returns-2)

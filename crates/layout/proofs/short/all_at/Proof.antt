@@ -4,7 +4,7 @@ use borrow.Author.Needs.{needs}
 use mathlib.Core.Path.{_∙_}
 use denote.Ref.{now}
 use Rattle.format.proofs.Read.{relation-copied, grant-copied, node-copied}
-use Rattle.format.proofs.Written.{node-most}
+use Rattle.format.proofs.Written.{grant-most, node-most}
 use Rattle.layout.proofs.short.all_at.Statement.{statement}
 use Rattle.layout.proofs.short.all_at.Tie as tie
 
@@ -28,7 +28,7 @@ returns c =
     let b = c .before .before .before .before in
     let a = b .before .before .args in (
       c .before .before .relation-in .ensures ∙ relation-copied 30 (now (a .file)) (a .at) (b .padded .result) (b .padded .ensures) (omega arith),
-      c .before .grant-in .ensures ∙ grant-copied 30 (now (a .file)) (a .at) (b .padded .result) (b .padded .ensures) (omega arith),
+      c .before .grant-in .ensures ∙ grant-copied 30 (now (a .file)) (a .at) (b .padded .result) (b .padded .ensures) (a .version) (omega (arith, grant-most (a .version))),
       c .node-in .ensures ∙ node-copied 30 (now (a .file)) (a .at) (b .padded .result) (b .padded .ensures) (a .version) (node-most (a .version)),
     )
 

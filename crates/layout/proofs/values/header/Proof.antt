@@ -4,6 +4,7 @@ use denote.Ref.{now}
 use mathlib.Core.Path.{ap, _∙_}
 use mathlib.Core.Bool.{Bool}
 use lib.ListN.{getD}
+use Rattle.laws.specs.BigEndian.{be}
 use Rattle.laws.specs.Choose.{if_then_else_}
 use Rattle.format.proofs.Read.{header-made}
 use Rattle.layout.proofs.values.header.Statement.{statement}
@@ -42,8 +43,15 @@ has-pairs-requires c κs = search needs
 byte-if-requires-2 : tie.Need-byte-if-requires-2
 byte-if-requires-2 c κs = search needs
 
+has-days-requires : tie.Need-has-days-requires
+has-days-requires c κs = search needs
+
+two-or-requires : tie.Need-two-or-requires
+two-or-requires c κs = search needs
+
 returns : tie.Need-returns
-returns c =
+returns d =
+    let c = d .before .before in
     let b = c .before .before .before .before .before .before .before .before in
     let s = now (b .before .before .before .before .args .file) in
     header-made s
@@ -56,6 +64,7 @@ returns c =
     (c .before .before .before .before .four .ensures)
     (c .before .before .byte-if .ensures ∙ ap (λ (t : Bool). if t then getD s 15 0 else 0) (c .before .before .before .delivers .ensures))
     (c .byte-if2 .ensures ∙ ap (λ (t : Bool). if t then getD s 16 0 else 0) (c .before .has-pairs .ensures))
+    (d .two-or .ensures ∙ ap (λ (t : Bool). if t then be s 17 2 else 0) (d .before .has-days .ensures))
 
 pub header-spec : {M : Type 1} → statement M
 header-spec =
@@ -72,4 +81,6 @@ header-spec =
     byte-if-requires
     has-pairs-requires
     byte-if-requires-2
+    has-days-requires
+    two-or-requires
     returns)

@@ -21,5 +21,9 @@ returns-4 : tie.Need-returns-4
 unfolding known anyOf
 returns-4 c = search cases depth 20
 
+returns-5 : tie.Need-returns-5
+unfolding known anyOf
+returns-5 c = search cases depth 20
+
 pub known-spec : {M : Type 1} → statement M
-known-spec = tie.close (tie.spec returns returns-2 returns-3 returns-4)
+known-spec = tie.close (tie.spec returns returns-2 returns-3 returns-4 returns-5)

@@ -12,26 +12,30 @@ returns : tie.Need-returns
 unfolding grantBad anyOf
 returns c = search cases depth 20
 
+returns-2 : tie.Need-returns-2
+unfolding grantBad anyOf
+returns-2 c = search cases depth 20
+
 subject-there-requires : tie.Need-subject-there-requires
 subject-there-requires c κs = search needs
 
-returns-2 : tie.Need-returns-2
+returns-3 : tie.Need-returns-3
 unfolding grantBad anyOf
-returns-2 c = rw (← c .before .subject-there .ensures) (search cases depth 20)
+returns-3 c = rw (← c .before .subject-there .ensures) (search cases depth 20)
 
 apart-requires : tie.Need-apart-requires
 apart-requires c κs = search needs
 
-returns-3 : tie.Need-returns-3
+returns-4 : tie.Need-returns-4
 unfolding grantBad anyOf
-returns-3 c = rw (← c .before .before .before .subject-there .ensures, ← c .before .apart .ensures) (search cases depth 20)
+returns-4 c = rw (← c .before .before .before .subject-there .ensures, ← c .before .apart .ensures) (search cases depth 20)
 
 within-requires : tie.Need-within-requires
 within-requires c κs = search needs
 
-returns-4 : tie.Need-returns-4
+returns-5 : tie.Need-returns-5
 unfolding grantBad anyOf
-returns-4 c =
+returns-5 c =
     rw (
       ← c .before .before .before .before .before .subject-there .ensures,
       ← c .before .before .before .apart .ensures,
@@ -42,10 +46,10 @@ returns-4 c =
 within-requires-2 : tie.Need-within-requires-2
 within-requires-2 c κs = search needs
 
-returns-5 : tie.Need-returns-5
+returns-6 : tie.Need-returns-6
 unfolding grantBad anyOf
-returns-5 c =
-    let a = c .before .before .before .before .before .before .before .before .before .before .args in
+returns-6 c =
+    let a = c .before .before .before .before .before .before .before .before .before .before .before .before .args in
     let inside : c .within2 .result ≡ within (a .v .sealed) (a .set) = c .within2 .ensures in
     rw (
       ← c .before .before .before .before .before .before .subject-there .ensures,
@@ -60,11 +64,12 @@ grant-bad-spec =
     tie.close
     (tie.spec
     returns
-    subject-there-requires
     returns-2
-    apart-requires
+    subject-there-requires
     returns-3
-    within-requires
+    apart-requires
     returns-4
+    within-requires
+    returns-5
     within-requires-2
-    returns-5)
+    returns-6)
