@@ -1,4 +1,4 @@
--- What one pass over the grants of a checked file holds gives each subject what its views say: there is one grant at most for a pair.
+-- What one pass over the grants of a checked file holds gives each subject what its views say: one grant at most for a pair is in force on the day.
 use Prim.Native.Nat.{ℕ, _+_, _<_, _≤_}
 use mathlib.Core.Path.{_≡_, refl, sym, ap, _∙_}
 use mathlib.Core.Bool.{Bool, true, false, not}

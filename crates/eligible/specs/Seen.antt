@@ -30,7 +30,7 @@ held day sets N n = each 32 (heldAt place (whenIn day sets) N n)
 abbrev pub grantees : ℕ → Night → ℕ → List ℕ
 grantees day N n = each 16 (heldAt (λ g. g .relation) (whenIn day (λ g. single 16 (g .subject))) N n)
 
--- what the grant to any on relation r lets subject p see: nothing where the subject has an own grant on it
+-- what the grant to any on relation r lets subject p see: nothing where the subject has an own grant on it that is in force
 unfoldable pub anyFor : List ℕ → List ℕ → ℕ → ℕ → ℕ
 anyFor sets own p r = if member (getD own r 0) p then 0 else getD sets (16 + r) 0
 

@@ -30,7 +30,7 @@ fn place(g: Grant) -> usize
     g.subject as usize
 }
 
-// What the grant to any on relation r lets subject p see: nothing where it has an own grant, which replaces any entirely.
+// What the grant to any on relation r lets subject p see: nothing where it has an own grant in force, which replaces any entirely.
 fn any_for(sets: &[u64; 32], own: &[u16; 16], p: u8, r: usize) -> u64
     requires { ⌜ r < 16 ⌝ }
     ensures { λ s. ⌜ s ≡ anyFor (now (sets .entry)) (now (own .entry)) p r ⌝ }

@@ -51,7 +51,9 @@ pub record ByDay : Type 0 where
   pub shares-none : sharesDay (granted 0 0 3 9 1 0) 0 2 ∷ sharesDay (granted 0 0 3 9 1 0) 10 12 ∷ [] ≡ false ∷ false ∷ []
   -- for the pair on some day of a stretch: of another relation, of another subject, of a stretch beside it, not
   pub for-on : isForOn (granted 0 0 3 9 1 0) 0 0 9 12 ∷ isForOn (granted 0 0 3 9 1 0) 0 0 0 3 ∷ [] ≡ true ∷ true ∷ []
-  pub for-others : isForOn (granted 0 0 3 9 1 0) 1 0 3 9 ∷ isForOn (granted 0 0 3 9 1 0) 0 1 3 9 ∷ isForOn (granted 0 0 3 9 1 0) 0 0 10 12 ∷ [] ≡ false ∷ false ∷ false ∷ []
+  pub for-others :
+      isForOn (granted 0 0 3 9 1 0) 1 0 3 9 ∷ isForOn (granted 0 0 3 9 1 0) 0 1 3 9 ∷ isForOn (granted 0 0 3 9 1 0) 0 0 10 12 ∷ []
+      ≡ false ∷ false ∷ false ∷ []
   -- subject 0: nothing before its grant, each grant on its own days, whatever any has, then any's as long as that is in force, then nothing
   pub own : seenOn 0 (2 ∷ 3 ∷ 5 ∷ 9 ∷ 10 ∷ 12 ∷ []) ≡ sees 0 0 ∷ sees 1 0 ∷ sees 1 0 ∷ sees 1 0 ∷ sees 0 1 ∷ sees 0 1 ∷ []
   pub own-over : seenOn 0 (13 ∷ 20 ∷ 21 ∷ []) ≡ sees 2 0 ∷ sees 2 0 ∷ sees 0 0 ∷ []

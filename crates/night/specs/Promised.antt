@@ -1,5 +1,6 @@
 -- What reading promises of the night of an accepted file. Planning uses this and nothing else of reading. That the kind is one of the version's, that
--- unused fields and spare bytes, the pairs named, version and length are as they must be, and that no grant ends before it begins, is checked too, and left out here, since no proof rests on it.
+-- unused fields and spare bytes, the pairs named, version and length are as they must be, and that no grant ends before it begins, is checked too, and
+-- left out here, since no proof rests on it.
 use Prim.Native.Nat.{ℕ, _+_, _<_, _≤_}
 use mathlib.Core.Path.{_≡_}
 use mathlib.Core.Bool.{true}

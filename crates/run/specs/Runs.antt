@@ -257,8 +257,8 @@ pub record Runs : Type 0 where
   pub chain-holders : holders (seen 9 6 chained) (plan (0 ∷ 1 ∷ 0 ∷ 0 ∷ 0 ∷ 1 ∷ []) (0 ∷ 1 ∷ []) (3 ∷ 0 ∷ 12 ∷ [])) 2 ≡ 3
   pub unsealed-holders : holders (seen 9 6 chained) (plan (0 ∷ 1 ∷ 0 ∷ 0 ∷ 0 ∷ 1 ∷ []) (0 ∷ 1 ∷ []) (2 ∷ 0 ∷ 12 ∷ [])) 2 ≡ 1
   pub own-holders : holders (seen 9 6 chained) (plan (0 ∷ 1 ∷ 0 ∷ 0 ∷ 0 ∷ 1 ∷ []) (0 ∷ 1 ∷ []) (3 ∷ 0 ∷ 12 ∷ [])) 3 ≡ 1
-  -- two pairs that share attribute 0 have one key; two that share none have two, also where a pair stands twice before the last; an attribute of a pair past those that the node names, or before
-  -- them, has its own
+  -- two pairs that share attribute 0 have one key; two that share none have two, also where a pair stands twice before the last; an attribute
+  -- of a pair past those that the node names, or before them, has its own
   pub shared-key : keyOf (seenOn 15 0 sharedPairs (pairsJoined 0 2 0)) (plan [] [] (1 ∷ 12 ∷ [])) 0 ≡ 0
   pub shared-key-first : keyOf (seenOn 15 0 sharedPairs (pairsJoined 0 2 0)) (plan [] [] (1 ∷ 12 ∷ [])) 2 ≡ 0
   pub shared-key-last : keyOf (seenOn 15 0 sharedPairs (pairsJoined 0 2 0)) (plan [] [] (1 ∷ 12 ∷ [])) 3 ≡ 0

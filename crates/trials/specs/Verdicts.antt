@@ -52,17 +52,19 @@ pub record FileVerdicts : Type 0 where
   pub pairs-none : Accepted (pairing 0 (naming 0 0 (aNode 4 0 1 255 255 0 0)) [])
   -- in version 2 no pairs are read, whatever stands behind the user
   pub pairs-unread : headerOf (set (withUser 1 small) 16 9) .pairs ≡ 0
-  -- in version 4, two grants for one pair on days that they don't share, whichever comes first, also of one day each; the owner's first day and last
+  -- in version 4, two grants for one pair on days that they don't share, whichever comes first, also of one day each; three for one; the owner's first day and
+  -- last
   pub dated-accepted :
       checkOf (dated 5) ≡ answers (record { version = 4; subjects = 2; relations = 1; attributes = 1; nodes = 1; grants = 3; steps = 0; user = 0; pairs = 0; day = 5 })
   pub dated-turned : Accepted (datedTwice 5 9 0 4)
   pub dated-one : Accepted (datedTwice 4 4 5 5)
+  pub dated-thrice : Accepted (dating 5 (lasting 10 12 (aGrant 0 0 0 0)) (lasting 0 2 (aGrant 0 0 0 1)))
   pub dated-first : Accepted (dated 3)
   pub dated-last : Accepted (dated 9)
   -- on a day without an own grant any serves
   pub dated-any : Accepted (dating 2 (lasting 0 2 (aGrant 0 255 1 0)) (lasting 3 9 (aGrant 0 255 0 0)))
   -- in version 3 no day is read, whatever stands behind the pairs
-  pub day-unread : headerOf (paired 0) .day ≡ 0
+  pub day-unread : headerOf (set (paired 0) 18 9) .day ≡ 0
   -- 1: fewer than 3 bytes, or not the mark; before 2
   pub mark-short : Refused (take 2 small) 1 0
   pub mark-first : Refused (set small 0 66) 1 0
@@ -142,6 +144,7 @@ pub record FileVerdicts : Type 0 where
   pub day-shared-turned : Refused (datedTwice 5 9 0 5) 6 2
   pub days-within : Refused (datedTwice 0 9 3 4) 6 2
   pub days-around : Refused (datedTwice 3 4 0 9) 6 2
+  pub day-shared-first : Refused (dating 5 (lasting 10 12 (aGrant 0 0 1 0)) (lasting 2 3 (aGrant 0 0 0 1))) 6 2
   -- every grant before any owner
   pub grants-before-owners : Refused (set (set small (grantByte 0 9) 0) (grantByte 3 0) 2) 6 3
   -- 7: an owner's view of its own relation isn't all clear; the relation; its own grant counts, whatever any sees; before 8
