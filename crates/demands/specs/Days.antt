@@ -53,7 +53,8 @@ pub record SaidAlike (s t : List ℕ) : Type 0 where
 -- of files past 1 to 4 whose nights differ in version and day alone, where every grant is in force on both days and both versions have a user and pairs alike
 abbrev pub AlwaysSaid : Type 0
 AlwaysSaid =
-    (s t : List ℕ) (version day : ℕ) → Headed s → Headed t → ButDays (nightOf s) version day → nightOf t ≡ inVersion (nightOf s) version day → SaidAlike s t
+    (s t : List ℕ) (version day : ℕ) → Headed s → Headed t → ButDays (nightOf s) version day
+    → nightOf t ≡ inVersion (nightOf s) version day → SaidAlike s t
 
 -- so of a file of version 3 and one of version 4 that has the same night, each grant from day 0 to day 65535, as it is read in the former, and any day
 abbrev pub ThreeAndFour : Type 0

@@ -40,7 +40,8 @@ takenColumns v l r =
 
 -- node i's table and its subjects from what its operands have: l is the left one's columns with those whom condition 3 on it puts out, r the right one's
 -- columns
-pub record Closes (N : Night) (s i : ℕ) (v : Node) (l : Walked) (r : Columns) (clear sealed tied tied′ seals seals′ sets sets′ : List ℕ) (made : Walked) : Type 0 where
+pub record Closes (N : Night) (s i : ℕ) (v : Node) (l : Walked) (r : Columns) (clear sealed tied tied′ seals seals′ sets sets′ : List ℕ)
+    (made : Walked) : Type 0 where
   pub columns : made .columns ≡ columnsOf (stepTable N v (withTied (l .columns) untied) (withTied r untied))
   pub put-out : made .out ≡ outAfter N v (l .out) s clear sealed tied
   pub tied-after : tied′ ≡ tieAll tied (ties N v)

@@ -83,7 +83,9 @@ pub record Rising : Type 0 where
   pub header-bytes : headerBytes (headed 258 13 14 3856) ≡ 65 ∷ 88 ∷ 80 ∷ 1 ∷ 2 ∷ behind
   pub header-bytes-one : headerBytes (headed 1 13 14 3856) ≡ 65 ∷ 88 ∷ 80 ∷ 0 ∷ 1 ∷ 3 ∷ 4 ∷ 5 ∷ 6 ∷ 7 ∷ 8 ∷ 9 ∷ 10 ∷ 11 ∷ 12 ∷ []
   pub header-bytes-two : headerBytes (headed 2 13 14 3856) ≡ 65 ∷ 88 ∷ 80 ∷ 0 ∷ 2 ∷ 3 ∷ 4 ∷ 5 ∷ 6 ∷ 7 ∷ 8 ∷ 9 ∷ 10 ∷ 11 ∷ 12 ∷ 13 ∷ []
-  pub header-bytes-three : headerBytes (headed 3 13 14 3856) ≡ 65 ∷ 88 ∷ 80 ∷ 0 ∷ 3 ∷ 3 ∷ 4 ∷ 5 ∷ 6 ∷ 7 ∷ 8 ∷ 9 ∷ 10 ∷ 11 ∷ 12 ∷ 13 ∷ 14 ∷ []
+  pub header-bytes-three :
+      headerBytes (headed 3 13 14 3856)
+      ≡ 65 ∷ 88 ∷ 80 ∷ 0 ∷ 3 ∷ 3 ∷ 4 ∷ 5 ∷ 6 ∷ 7 ∷ 8 ∷ 9 ∷ 10 ∷ 11 ∷ 12 ∷ 13 ∷ 14 ∷ []
   pub header-bytes-four : headerBytes (headed 4 13 14 3856) ≡ 65 ∷ 88 ∷ 80 ∷ 0 ∷ 4 ∷ behind
   -- read: what the version doesn't have is 0, whatever stands there; so is what lies past the end
   pub header-read : headerOf (65 ∷ 88 ∷ 80 ∷ 1 ∷ 2 ∷ behind) ≡ headed 258 13 14 3856
@@ -101,7 +103,9 @@ pub record Rising : Type 0 where
   pub relation-low : relationBytes (record { owner = 3; set = 258 }) ≡ 3 ∷ 0 ∷ 0 ∷ 0 ∷ 0 ∷ 0 ∷ 0 ∷ 1 ∷ 2 ∷ []
   pub relation-read : relationAt (rising 10) 1 ≡ aRelation
   -- of a grant; before version 4 without its days, and read as one for every day
-  pub grant-bytes : grantBytes 3 (aGrant 4884 5398) ≡ 1 ∷ 2 ∷ 3 ∷ 4 ∷ 5 ∷ 6 ∷ 7 ∷ 8 ∷ 9 ∷ 10 ∷ 11 ∷ 12 ∷ 13 ∷ 14 ∷ 15 ∷ 16 ∷ 17 ∷ 18 ∷ []
+  pub grant-bytes :
+      grantBytes 3 (aGrant 4884 5398)
+      ≡ 1 ∷ 2 ∷ 3 ∷ 4 ∷ 5 ∷ 6 ∷ 7 ∷ 8 ∷ 9 ∷ 10 ∷ 11 ∷ 12 ∷ 13 ∷ 14 ∷ 15 ∷ 16 ∷ 17 ∷ 18 ∷ []
   pub grant-bytes-four : grantBytes 4 (aGrant 4884 5398) ≡ grantBytes 3 (aGrant 4884 5398) ++ (19 ∷ 20 ∷ 21 ∷ 22 ∷ [])
   pub grant-read-three : grantAt 3 (rising 23) 1 ≡ aGrant 0 65535
   pub grant-read-four : grantAt 4 (rising 23) 1 ≡ aGrant 4884 5398

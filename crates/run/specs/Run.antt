@@ -12,7 +12,8 @@ use Rattle.sets.specs.Sets.{In, member, union, apart, unions}
 use Rattle.night.specs.declared.Node.{Node}
 use Rattle.night.specs.Versions.{delivers}
 use Rattle.night.specs.Night.{Night, nodeOf}
-use Rattle.night.specs.Kinds.{aLeaf, aSelect, aCompare, aJoin, anAggregate, aCount, aFunction, aJoinOnPairs, usesLeft, usesRight, attribute, itsPair, bothOf, reads, readTogether, visible}
+use Rattle.night.specs.Kinds.{aLeaf, aSelect, aCompare, aJoin, anAggregate, aCount, aFunction, aJoinOnPairs, usesLeft, usesRight}
+use Rattle.night.specs.Kinds.{attribute, itsPair, bothOf, reads, readTogether, visible}
 use Rattle.night.specs.Views.{clearOf, sealedOf}
 use Rattle.run.specs.Linked.{Chain}
 use Rattle.run.specs.Keys.{Plan, Event, events, keyName, keyHolders}

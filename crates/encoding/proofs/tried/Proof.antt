@@ -3,11 +3,6 @@ use Rattle.laws.proofs.Cases.{cases}
 use borrow.Author.Needs.{needs}
 use Rattle.encoding.proofs.tried.Statement.{statement}
 use Rattle.encoding.proofs.tried.Tie as tie
-use Rattle.encoding.proofs.tried.Reads as reads
-use Rattle.encoding.proofs.tried.Lts as lts
-use Rattle.encoding.proofs.miscounted.Reads as miscounted-reads
-use Rattle.night.proofs.versions.known.Reads as known-reads
-use Rattle.rules.proofs.records.counts_bad.Reads as counts-bad-reads
 
 -- src/lib.rt:127:9
 known-requires : tie.Need-known-requires

@@ -4,9 +4,6 @@ use Rattle.laws.proofs.Cases.{yes-is}
 use Rattle.sets.specs.Sets.{single}
 use Rattle.eligible.proofs.seen.whom.Statement.{statement}
 use Rattle.eligible.proofs.seen.whom.Tie as tie
-use Rattle.eligible.proofs.seen.whom.Reads as reads
-use Rattle.eligible.proofs.seen.whom.Lts as lts
-use Rattle.sets.proofs.subjects.single.Reads as single-reads
 
 single-requires : tie.Need-single-requires
 single-requires c κs = search needs

@@ -2,9 +2,6 @@ use borrow.Author.Needs.{needs}
 use Rattle.encoding.proofs.Put.{halves-put}
 use Rattle.encoding.proofs.numbers.put_eight.Statement.{statement}
 use Rattle.encoding.proofs.numbers.put_eight.Tie as tie
-use Rattle.encoding.proofs.numbers.put_eight.Reads as reads
-use Rattle.encoding.proofs.numbers.put_eight.Lts as lts
-use Rattle.encoding.proofs.numbers.put_four.Reads as put-four-reads
 
 -- src/numbers.rt:31:5
 put-four-requires : tie.Need-put-four-requires

@@ -2,9 +2,6 @@ use borrow.Author.Needs.{needs}
 use Rattle.encoding.proofs.Put.{halves-put}
 use Rattle.encoding.proofs.numbers.put_four.Statement.{statement}
 use Rattle.encoding.proofs.numbers.put_four.Tie as tie
-use Rattle.encoding.proofs.numbers.put_four.Reads as reads
-use Rattle.encoding.proofs.numbers.put_four.Lts as lts
-use Rattle.encoding.proofs.numbers.put_two.Reads as put-two-reads
 
 -- src/numbers.rt:22:5
 put-two-requires : tie.Need-put-two-requires

@@ -4,8 +4,6 @@ use lib.ListN.{length-set}
 use Rattle.encoding.proofs.Put.{two-put}
 use Rattle.encoding.proofs.numbers.put_two.Statement.{statement}
 use Rattle.encoding.proofs.numbers.put_two.Tie as tie
-use Rattle.encoding.proofs.numbers.put_two.Reads as reads
-use Rattle.encoding.proofs.numbers.put_two.Lts as lts
 
 -- src/numbers.rt:13:16
 cast-room : tie.Need-cast-room

@@ -3,8 +3,6 @@ use lib.ListN.{length-set}
 use borrow.Author.Needs.{needs}
 use Rattle.encoding.proofs.records.put_counts.Statement.{statement}
 use Rattle.encoding.proofs.records.put_counts.Tie as tie
-use Rattle.encoding.proofs.records.put_counts.Reads as reads
-use Rattle.encoding.proofs.records.put_counts.Lts as lts
 
 slice-write-room : tie.Need-slice-write-room
 slice-write-room c = search needs

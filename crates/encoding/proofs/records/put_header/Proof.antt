@@ -5,13 +5,6 @@ use native.Mathlib.Omega.{arith}
 use borrow.Author.Needs.{needs}
 use Rattle.encoding.proofs.records.put_header.Statement.{statement}
 use Rattle.encoding.proofs.records.put_header.Tie as tie
-use Rattle.encoding.proofs.records.put_header.Reads as reads
-use Rattle.encoding.proofs.records.put_header.Lts as lts
-use Rattle.encoding.proofs.numbers.put_four.Reads as put-four-reads
-use Rattle.encoding.proofs.numbers.put_two.Reads as put-two-reads
-use Rattle.encoding.proofs.records.put_counts.Reads as put-counts-reads
-use Rattle.encoding.proofs.records.put_mark.Reads as put-mark-reads
-use Rattle.encoding.proofs.records.put_last.Reads as put-last-reads
 
 put-mark-requires : tie.Need-put-mark-requires
 put-mark-requires c κs = omega (arith, header-least (c .before .before .args .h .version))

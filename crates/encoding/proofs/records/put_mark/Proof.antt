@@ -3,8 +3,6 @@ use lib.ListN.{length-set}
 use borrow.Author.Needs.{needs}
 use Rattle.encoding.proofs.records.put_mark.Statement.{statement}
 use Rattle.encoding.proofs.records.put_mark.Tie as tie
-use Rattle.encoding.proofs.records.put_mark.Reads as reads
-use Rattle.encoding.proofs.records.put_mark.Lts as lts
 
 slice-write-room : tie.Need-slice-write-room
 slice-write-room c = search needs

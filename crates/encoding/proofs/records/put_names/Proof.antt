@@ -6,9 +6,6 @@ use lib.ListN.{length-set}
 use borrow.Author.Needs.{needs}
 use Rattle.encoding.proofs.records.put_names.Statement.{statement}
 use Rattle.encoding.proofs.records.put_names.Tie as tie
-use Rattle.encoding.proofs.records.put_names.Reads as reads
-use Rattle.encoding.proofs.records.put_names.Lts as lts
-use Rattle.night.proofs.versions.has_pairs.Reads as has-pairs-reads
 
 has-pairs-requires : tie.Need-has-pairs-requires
 has-pairs-requires c κs = search needs

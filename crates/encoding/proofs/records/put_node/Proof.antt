@@ -4,12 +4,6 @@ use native.Mathlib.Omega.{arith}
 use borrow.Author.Needs.{needs}
 use Rattle.encoding.proofs.records.put_node.Statement.{statement}
 use Rattle.encoding.proofs.records.put_node.Tie as tie
-use Rattle.encoding.proofs.records.put_node.Reads as reads
-use Rattle.encoding.proofs.records.put_node.Lts as lts
-use Rattle.encoding.proofs.numbers.put_eight.Reads as put-eight-reads
-use Rattle.encoding.proofs.numbers.put_four.Reads as put-four-reads
-use Rattle.encoding.proofs.records.put_names.Reads as put-names-reads
-use Rattle.encoding.proofs.records.put_start.Reads as put-start-reads
 
 put-start-requires : tie.Need-put-start-requires
 put-start-requires c κs = omega (arith, node-least (c .before .before .args .version))

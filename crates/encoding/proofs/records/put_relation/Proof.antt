@@ -5,9 +5,6 @@ use mathlib.Core.Path.{_∙_}
 use borrow.Author.Needs.{needs}
 use Rattle.encoding.proofs.records.put_relation.Statement.{statement}
 use Rattle.encoding.proofs.records.put_relation.Tie as tie
-use Rattle.encoding.proofs.records.put_relation.Reads as reads
-use Rattle.encoding.proofs.records.put_relation.Lts as lts
-use Rattle.encoding.proofs.numbers.put_eight.Reads as put-eight-reads
 
 slice-write-room : tie.Need-slice-write-room
 slice-write-room c = search needs

@@ -4,8 +4,6 @@ use Rattle.encoding.proofs.Put.{start-put}
 use borrow.Author.Needs.{needs}
 use Rattle.encoding.proofs.records.put_start.Statement.{statement}
 use Rattle.encoding.proofs.records.put_start.Tie as tie
-use Rattle.encoding.proofs.records.put_start.Reads as reads
-use Rattle.encoding.proofs.records.put_start.Lts as lts
 
 slice-write-room : tie.Need-slice-write-room
 slice-write-room c = search needs

@@ -15,10 +15,6 @@ use Rattle.encoding.proofs.Put.{kept-long}
 use Rattle.encoding.proofs.Section.{SoFar, none-yet, one-more}
 use Rattle.encoding.proofs.sections.put_nodes.Statement.{statement}
 use Rattle.encoding.proofs.sections.put_nodes.Tie as tie
-use Rattle.encoding.proofs.sections.put_nodes.Reads as reads
-use Rattle.encoding.proofs.sections.put_nodes.Lts as lts
-use Rattle.encoding.proofs.records.put_node.Reads as put-node-reads
-use Rattle.night.proofs.versions.nodes_length.Reads as nodes-length-reads
 
 abbrev entry : List Node → ℕ → Node
 entry nodes k = getD nodes k noNode

@@ -8,8 +8,6 @@ use Rattle.encoding.specs.Stored.{Stored}
 use Rattle.encoding.proofs.Put.{put-same, byte-more}
 use Rattle.encoding.proofs.sections.put_pairs.Statement.{statement}
 use Rattle.encoding.proofs.sections.put_pairs.Tie as tie
-use Rattle.encoding.proofs.sections.put_pairs.Reads as reads
-use Rattle.encoding.proofs.sections.put_pairs.Lts as lts
 
 abbrev Inv-loop : tie.InvT-loop
 Inv-loop room₀ at pairs i₀ room i = (i ≤ length pairs) × (length room ≡ length room₀) × Stored room₀ room at (take i pairs)

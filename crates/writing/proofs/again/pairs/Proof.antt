@@ -12,10 +12,6 @@ use Rattle.writing.specs.Prices.{mostPairBytes}
 use Rattle.writing.proofs.Retaken.{pair-more}
 use Rattle.writing.proofs.again.pairs.Statement.{statement}
 use Rattle.writing.proofs.again.pairs.Tie as tie
-use Rattle.writing.proofs.again.pairs.Reads as reads
-use Rattle.writing.proofs.again.pairs.Lts as lts
-use Rattle.layout.proofs.places.pairs_in.Reads as pairs-in-reads
-use Rattle.layout.proofs.values.pair.Reads as pair-reads
 
 abbrev Inv-loop : tie.InvT-loop
 Inv-loop file h n all₀ i₀ all i = (length all ≡ mostPairBytes) × (i ≤ n) × (n ≡ pairsIn h) × (n < 256) × (take (2 * i) all ≡ bytesFrom file (pairsFrom h) (2 * i))
