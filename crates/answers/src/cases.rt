@@ -3,81 +3,92 @@ use layout::{places, values};
 use planning::{CandidateSet, CheapestPlan, OfferedPlan};
 use reading::{Checked, Part};
 use show::{lines, rooms};
+use std::io;
 
 // Answers case k, with rooms of n bytes, p and q numbers.
-pub(crate) fn answer(k: u64, file: &[u8], offer: &[u8], n: usize, p: usize, q: usize) {
-    io::write_all(1, b"case ");
-    io::print_decimal(1, k);
-    lines::end();
-    io::write_all(1, b"grants ");
-    grants(file);
-    candidates(file);
-    let first = cheapest(file, n, p, q);
-    io::write_all(1, b"offered ");
-    let second = offered(file, offer, p, q);
+pub(crate) fn answer(
+    rt: &impl Print,
+    k: u64,
+    file: &[u8],
+    offer: &[u8],
+    n: usize,
+    p: usize,
+    q: usize,
+) -> io::Result<()> {
+    println!(rt; "case {k}")?;
+    print!(rt; "grants ")?;
+    grants(rt, file)?;
+    candidates(rt, file)?;
+    let first = cheapest(rt, file, n, p, q)?;
+    print!(rt; "offered ")?;
+    let second = offered(rt, file, offer, p, q)?;
     if first && second {
-        io::write_all(1, b"rooms kept\n");
+        println!(rt; "rooms kept")
     } else {
-        io::write_all(1, b"rooms changed\n");
+        println!(rt; "rooms changed")
     }
 }
 
 // Where the part of grant records lies, or the refusal that stands beside it.
-fn grants(file: &[u8]) {
-    told(file, reading::grant_records_told(file));
+fn grants(rt: &impl Print, file: &[u8]) -> io::Result<()> {
+    told(rt, file, reading::grant_records_told(file))
 }
 
-// Takes the struct apart and does no more, since this is walked by hand.
-fn told<'a>(file: &'a [u8], part: Part<'a>) {
-    part_line(file, part.records, part.number, part.place);
+// Takes the struct apart and does no more.
+fn told<'a>(rt: &impl Print, file: &'a [u8], part: Part<'a>) -> io::Result<()> {
+    part_line(rt, file, part.records, part.number, part.place)
 }
 
 // The line of the part; number and place are 0 where the file is accepted.
-fn part_line<'a>(file: &'a [u8], records: &'a [u8], number: u8, place: u32) {
+fn part_line<'a>(
+    rt: &impl Print,
+    file: &'a [u8],
+    records: &'a [u8],
+    number: u8,
+    place: u32,
+) -> io::Result<()> {
     if number != 0 {
-        lines::refused(number, place);
-        return;
+        return lines::refused(rt, number, place);
     }
-    io::print_decimal(1, places::grants_from(values::header(file)) as u64);
-    io::write_all(1, b" ");
-    io::print_decimal(1, records.len() as u64);
-    lines::end();
+    let from = places::grants_from(values::header(file));
+    let n = records.len();
+    println!(rt; "{from} {n}")
 }
 
 // A line for each node, or the refusal.
-fn candidates(file: &[u8]) {
+fn candidates(rt: &impl Print, file: &[u8]) -> io::Result<()> {
     match reading::check(file) {
-        Checked::Accepted(h) => every_node(file, h.nodes),
+        Checked::Accepted(h) => every_node(rt, file, h.nodes),
         Checked::Refused { number, place } => {
-            io::write_all(1, b"candidates ");
-            lines::refused(number, place);
+            print!(rt; "candidates ")?;
+            lines::refused(rt, number, place)
         }
     }
 }
 
-fn every_node(file: &[u8], n: u8) {
+fn every_node(rt: &impl Print, file: &[u8], n: u8) -> io::Result<()> {
     let mut i: u8 = 0;
     while i < n {
-        candidates_of(file, i);
+        candidates_of(rt, file, i)?;
         i += 1;
     }
+    Ok(())
 }
 
-fn candidates_of(file: &[u8], i: u8) {
-    io::write_all(1, b"candidates ");
+fn candidates_of(rt: &impl Print, file: &[u8], i: u8) -> io::Result<()> {
+    print!(rt; "candidates ")?;
     match planning::candidates(file, i as usize) {
         CandidateSet::Among(set) => {
-            io::print_decimal(1, i as u64);
-            io::write_all(1, b" ");
-            lines::members(set as u64);
-            lines::end();
+            print!(rt; "{i} ")?;
+            lines::members(rt, set as u64)?;
+            lines::end(rt)
         }
-        CandidateSet::Refused { number, place } => lines::refused(number, place),
+        CandidateSet::Refused { number, place } => lines::refused(rt, number, place),
     }
 }
 
 // The cheapest plan's lines; whether all that had to stay in the rooms did.
-fn cheapest(file: &[u8], n: usize, p: usize, q: usize) -> bool {
+fn cheapest(rt: &impl Print, file: &[u8], n: usize, p: usize, q: usize) -> io::Result<bool> {
     let mut choice = [rooms::BYTE; 64];
     let mut plan = [rooms::WORD; 128];
     let mut keys = [rooms::WORD; 128];
@@ -89,19 +100,19 @@ fn cheapest(file: &[u8], n: usize, p: usize, q: usize) -> bool {
     );
     match said {
         CheapestPlan::Cheapest { total, steps } => {
-            lines::totals(total, steps);
+            lines::totals(rt, total, steps)?;
             let h = values::header(file);
-            lines::nodes(&choice, &plan, h.nodes);
-            lines::keys(&keys, h.attributes);
+            lines::nodes(rt, &choice, &plan, h.nodes)?;
+            lines::keys(rt, &keys, h.attributes)?;
             let first = rooms::bytes_kept(&choice, h.nodes as usize);
             let others = kept(&plan, &keys, h.nodes, h.attributes);
-            first && others
+            Ok(first && others)
         }
         CheapestPlan::Refused { number, place } => {
-            lines::refused(number, place);
+            lines::refused(rt, number, place)?;
             let first = rooms::bytes_kept(&choice, 0);
             let others = kept(&plan, &keys, 0, 0);
-            first && others
+            Ok(first && others)
         }
     }
 }
@@ -114,7 +125,7 @@ fn kept(plan: &[u64], keys: &[u64], n: u8, a: u8) -> bool {
 }
 
 // The same of the plan for the offered choice, with the subjects as offered.
-fn offered(file: &[u8], offer: &[u8], p: usize, q: usize) -> bool {
+fn offered(rt: &impl Print, file: &[u8], offer: &[u8], p: usize, q: usize) -> io::Result<bool> {
     let mut plan = [rooms::WORD; 128];
     let mut keys = [rooms::WORD; 128];
     let said = planning::offered(
@@ -125,15 +136,15 @@ fn offered(file: &[u8], offer: &[u8], p: usize, q: usize) -> bool {
     );
     match said {
         OfferedPlan::Offered { total } => {
-            lines::total(total);
+            lines::total(rt, total)?;
             let h = values::header(file);
-            lines::nodes(offer, &plan, h.nodes);
-            lines::keys(&keys, h.attributes);
-            kept(&plan, &keys, h.nodes, h.attributes)
+            lines::nodes(rt, offer, &plan, h.nodes)?;
+            lines::keys(rt, &keys, h.attributes)?;
+            Ok(kept(&plan, &keys, h.nodes, h.attributes))
         }
         OfferedPlan::Refused { number, place } => {
-            lines::refused(number, place);
-            kept(&plan, &keys, 0, 0)
+            lines::refused(rt, number, place)?;
+            Ok(kept(&plan, &keys, 0, 0))
         }
     }
 }

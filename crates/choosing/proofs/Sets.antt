@@ -8,7 +8,7 @@ use lib.Dec.{eqb}
 use lib.ListN.{length, get_or}
 use lib.Count.{ones-le}
 use borrow.Author.Tests.{ne_eqb}
-use Rattle.laws.specs.Choose.{if◌then◌else◌}
+use Rattle.std.specs.Prelude.{if◌then◌else◌}
 use Rattle.laws.proofs.Upwards.{each_at}
 use Rattle.sets.specs.Sets.{single, size}
 use Rattle.night.specs.declared.Node.{Node}

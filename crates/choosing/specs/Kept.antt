@@ -1,6 +1,5 @@
 -- What the code is given and asks of a node for 17.
-use Rattle.std.specs.Prelude.{ℕ, ◌≡◌, Bool, false, not, List, eqb}
-use Rattle.laws.specs.Choose.{if◌then◌else◌}
+use Rattle.std.specs.Prelude.{ℕ, ◌≡◌, Bool, false, not, List, eqb, if◌then◌else◌}
 use Rattle.laws.specs.Trials.{answers, refuses}
 use Rattle.laws.specs.Upwards.{each}
 use Rattle.sets.specs.Sets.{within}

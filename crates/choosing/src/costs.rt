@@ -1,6 +1,5 @@
 // What a step and a link cost.
-ghost use Rattle.std.specs.Prelude.{◌≡◌, ◌*◌, eqb};
-ghost use Rattle.laws.specs.Choose.{if◌then◌else◌};
+ghost use Rattle.std.specs.Prelude.{◌≡◌, ◌*◌, eqb, if◌then◌else◌};
 ghost use Rattle.format.specs.Layout.{night_in};
 ghost use Rattle.night.specs.Night.{node_of, step_price, link_price};
 

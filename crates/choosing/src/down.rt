@@ -12,7 +12,7 @@ use layout::values;
 use night::Header;
 
 // A choice with its total.
-#[derive(Drop)]
+#[derive(Clone, Copy)]
 pub(crate) struct Picked {
     pub subjects: [u8; 64],
     pub total: u64,

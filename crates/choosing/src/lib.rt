@@ -1,4 +1,6 @@
 // The cheapest choice of subjects, and what an offered choice costs.
+#![tactic(auto)]
+
 mod costs;
 mod down;
 mod offer;
@@ -14,14 +16,14 @@ use eligible::Built;
 use reading::Checked;
 
 // What is said of the cheapest choice: its total and the steps, or the refusal.
-#[derive(Drop)]
+#[derive(Clone, Copy)]
 pub enum Cheapest {
     Found { total: u64, steps: u32 },
     Refused { number: u8, place: u32 },
 }
 
 // The answer, and beside it the subject of each node, 0 past the last node, and what the plan is made of: all empty with a refusal.
-#[derive(Drop)]
+#[derive(Clone, Copy)]
 pub struct Chosen {
     pub said: Cheapest,
     pub subjects: [u8; 64],
@@ -29,14 +31,14 @@ pub struct Chosen {
 }
 
 // The total of an offered choice, or the refusal.
-#[derive(Drop)]
+#[derive(Clone, Copy)]
 pub enum Offered {
     Costs(u64),
     Refused { number: u8, place: u32 },
 }
 
 // The answer to an offer, and beside it what the plan is made of: empty with a refusal.
-#[derive(Drop)]
+#[derive(Clone, Copy)]
 pub struct Costed {
     pub said: Offered,
     pub built: Built,

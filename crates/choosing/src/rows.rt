@@ -1,6 +1,5 @@
 // The least costs of every node, upwards: a row for each node, and in it what the node costs with all under it where a subject does it.
-ghost use Rattle.std.specs.Prelude.{◌≡◌, true, ◌+◌, ◌*◌, ◌<◌, ◌≤◌};
-ghost use Rattle.laws.specs.Choose.{if◌then◌else◌};
+ghost use Rattle.std.specs.Prelude.{◌≡◌, true, ◌+◌, ◌*◌, ◌<◌, ◌≤◌, if◌then◌else◌};
 ghost use Rattle.laws.specs.Upwards.{upwards};
 ghost use Rattle.format.specs.Layout.{night_in};
 ghost use Rattle.night.specs.Night.{link_price};

@@ -1,6 +1,5 @@
 // Steps: over every child and its parent, the parent's candidates times the child's.
-ghost use Rattle.std.specs.Prelude.{◌≡◌, true, ◌*◌, ◌<◌, ◌≤◌, eqb};
-ghost use Rattle.laws.specs.Choose.{if◌then◌else◌};
+ghost use Rattle.std.specs.Prelude.{◌≡◌, true, ◌*◌, ◌<◌, ◌≤◌, eqb, if◌then◌else◌};
 ghost use Rattle.format.specs.Layout.{night_in};
 ghost use Rattle.night.specs.Promised.{Promised};
 ghost use Rattle.sets.specs.Sets.{size};

@@ -1,6 +1,5 @@
 // The steps that nobody may run.
-ghost use Rattle.std.specs.Prelude.{◌≡◌, false, ◌≤◌, eqb};
-ghost use Rattle.laws.specs.Choose.{if◌then◌else◌};
+ghost use Rattle.std.specs.Prelude.{◌≡◌, false, ◌≤◌, eqb, if◌then◌else◌};
 ghost use Rattle.laws.specs.First.{first};
 ghost use Rattle.format.specs.Layout.{night_in};
 ghost use Rattle.verdicts.specs.Refusals.{without_candidate};

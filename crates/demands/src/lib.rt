@@ -1,1 +1,2 @@
 // No code: the statements over bytes, and their proofs.
+#![tactic(auto)]

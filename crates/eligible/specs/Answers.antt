@@ -1,6 +1,5 @@
 -- What each case of an answer says of the file, and what goes with it.
-use Rattle.std.specs.Prelude.{ℕ, ◌+◌, ◌-◌, ◌≡◌, List, eqb, replicate}
-use Rattle.laws.specs.Choose.{if◌then◌else◌}
+use Rattle.std.specs.Prelude.{ℕ, ◌+◌, ◌-◌, ◌≡◌, List, eqb, replicate, if◌then◌else◌}
 use Rattle.laws.specs.Trials.{answers, refuses, verdict}
 use Rattle.laws.specs.Upwards.{each}
 use Rattle.night.specs.Night.{Night}

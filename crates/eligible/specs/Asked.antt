@@ -1,6 +1,5 @@
 -- What is asked of the first s subjects, by lists of what each sees in clear and sealed.
-use Rattle.std.specs.Prelude.{ℕ, ◌≡◌, List, get_or}
-use Rattle.laws.specs.Choose.{if◌then◌else◌}
+use Rattle.std.specs.Prelude.{ℕ, ◌≡◌, List, get_or, if◌then◌else◌}
 use Rattle.laws.specs.Upwards.{each}
 use Rattle.sets.specs.Sets.{single, unions}
 use Rattle.night.specs.Night.{Night}

@@ -1,6 +1,5 @@
 -- What one pass over the grants holds, and what every subject sees from that.
-use Rattle.std.specs.Prelude.{ℕ, ◌+◌, List, eqb, get_or}
-use Rattle.laws.specs.Choose.{if◌then◌else◌}
+use Rattle.std.specs.Prelude.{ℕ, ◌+◌, List, eqb, get_or, if◌then◌else◌}
 use Rattle.laws.specs.Upwards.{each}
 use Rattle.sets.specs.Sets.{member, union, single, unions}
 use Rattle.night.specs.declared.Grant.{Grant}

@@ -1,6 +1,5 @@
 -- What the walk holds at a node, and what it leaves in the rooms lent to it.
-use Rattle.std.specs.Prelude.{ℕ, ◌≡◌, List, [], ◌∷◌, length, get_or, set}
-use Rattle.laws.specs.Choose.{if◌then◌else◌}
+use Rattle.std.specs.Prelude.{ℕ, ◌≡◌, List, [], ◌∷◌, length, get_or, set, if◌then◌else◌}
 use Rattle.sets.specs.Sets.{union, minus, unions}
 use Rattle.night.specs.declared.Node.{Node}
 use Rattle.night.specs.Night.{Night, node_of}

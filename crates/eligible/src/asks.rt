@@ -1,6 +1,5 @@
 // Who of the first s subjects passes: a step's columns and tied sets are held against what each of them sees.
-ghost use Rattle.std.specs.Prelude.{ℕ, ◌≤◌, ◌≡◌, List, get_or};
-ghost use Rattle.laws.specs.Choose.{if◌then◌else◌};
+ghost use Rattle.std.specs.Prelude.{ℕ, ◌≤◌, ◌≡◌, List, get_or, if◌then◌else◌};
 ghost use Rattle.sets.specs.Sets.{single, unions};
 ghost use Rattle.tables.specs.Columns.{with_tied};
 ghost use Rattle.eligible.specs.Asked.{out_among, pass_among};

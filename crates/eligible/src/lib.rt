@@ -1,4 +1,6 @@
 // The candidate pass over a plan file: it checks the file, works out what each subject sees and each table once, and tells who may run what.
+#![tactic(auto)]
+
 mod asks;
 mod reasons;
 mod seen;
@@ -23,7 +25,7 @@ use sets::subjects;
 
 // What the built plan is made of: what each node seals (what it has in clear, the root nothing), the root's tied sets, which group the keys, and
 // what leaves the root sealed.
-#[derive(Drop)]
+#[derive(Clone, Copy)]
 pub struct Built {
     pub seals: [u64; 64],
     pub tied: [u64; 64],
@@ -32,7 +34,7 @@ pub struct Built {
 
 // Reading's answer, and beside it who may be the subject of each node, what each subject sees in clear, and what the plan is made of. All is empty
 // with a refusal.
-#[derive(Drop)]
+#[derive(Clone, Copy)]
 pub struct PassOver {
     pub answer: Checked,
     pub sets: [u16; 64],
@@ -106,7 +108,7 @@ pub fn pass(file: &[u8]) -> PassOver
 }
 
 // Reading's answer, and beside it the candidates of a node: none with a refusal.
-#[derive(Drop)]
+#[derive(Clone, Copy)]
 pub struct NodeSet {
     pub answer: Checked,
     pub set: u16,
@@ -146,7 +148,7 @@ pub fn candidate_set(file: &[u8], node: usize) -> NodeSet
 }
 
 // What is said of the question, and beside it how the subject stands: with a refusal nothing is said.
-#[derive(Drop)]
+#[derive(Clone, Copy)]
 pub struct Stood {
     pub answer: Checked,
     pub standing: Standing,

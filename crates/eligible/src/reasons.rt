@@ -1,7 +1,7 @@
 // Why a subject is out of a step: the walk works out the tables that it would take and make, each once and none before it is asked, and the
 // first condition that fails is named.
-ghost use Rattle.std.specs.Prelude.{◌<◌, ◌≡◌, true, false, not, [], ◌∷◌, ltb, length};
-ghost use Rattle.laws.specs.Choose.{if◌then◌else◌, any_of};
+ghost use Rattle.std.specs.Prelude.{◌<◌, ◌≡◌, true, false, not, [], ◌∷◌, ltb, length, if◌then◌else◌};
+ghost use Rattle.laws.specs.Choose.{any_of};
 ghost use Rattle.format.specs.Layout.{night_in};
 ghost use Rattle.night.specs.Night.{node_of};
 ghost use Rattle.night.specs.Kinds.{uses_right};
@@ -23,7 +23,7 @@ use night::{Header, Node, View};
 use tables::{Columns, may, parts};
 
 // The right operand's columns, and how the subject stands by its least view.
-#[derive(Drop)]
+#[derive(Clone, Copy)]
 struct Right {
     pub columns: Columns,
     pub standing: Standing,

@@ -1,6 +1,5 @@
 // What every subject sees, worked out in one pass over the grants: each grant is read once, not searched for.
-ghost use Rattle.std.specs.Prelude.{◌≡◌, ◌<◌};
-ghost use Rattle.laws.specs.Choose.{if◌then◌else◌};
+ghost use Rattle.std.specs.Prelude.{◌≡◌, ◌<◌, if◌then◌else◌};
 ghost use Rattle.laws.specs.Upwards.{each};
 ghost use Rattle.sets.specs.Sets.{single};
 ghost use Rattle.format.specs.Layout.{night_in};
@@ -13,7 +12,7 @@ use night::{Grant, Header};
 use sets::{attributes, subjects};
 
 // What each subject sees, over all relations: in clear and sealed.
-#[derive(Drop)]
+#[derive(Clone, Copy)]
 pub(crate) struct Seen {
     pub clear: [u64; 16],
     pub sealed: [u64; 16],

@@ -1,7 +1,6 @@
 // Tied sets, in lent room: for each attribute the whole tied set that it stands in. What a reference to an array is of is not known to be 64
 // long, so each function that stores asks for it.
-ghost use Rattle.std.specs.Prelude.{◌≡◌, length, get_or};
-ghost use Rattle.laws.specs.Choose.{if◌then◌else◌};
+ghost use Rattle.std.specs.Prelude.{◌≡◌, length, get_or, if◌then◌else◌};
 ghost use Rattle.laws.specs.Upwards.{each};
 ghost use Rattle.sets.specs.Sets.{member};
 ghost use Rattle.model.specs.Ties.{gathered, tie, merged};

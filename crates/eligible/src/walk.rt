@@ -1,7 +1,6 @@
 // One walk from a node down to the leaves: it meets each step under the node once, works out its table once, and leaves on its way what each
 // node has in clear and who may be its subject. A table's tied sets stand in the room lent for it.
-ghost use Rattle.std.specs.Prelude.{◌<◌, ◌≤◌, ◌≡◌, true, length};
-ghost use Rattle.laws.specs.Choose.{if◌then◌else◌};
+ghost use Rattle.std.specs.Prelude.{◌<◌, ◌≤◌, ◌≡◌, true, length, if◌then◌else◌};
 ghost use Rattle.format.specs.Layout.{night_in};
 ghost use Rattle.night.specs.Night.{node_of};
 ghost use Rattle.night.specs.Kinds.{uses_right};
@@ -18,7 +17,7 @@ use sets::subjects;
 use tables::{Columns, parts};
 
 // A table with its tied sets elsewhere, and the subjects whom condition 3 on it puts out.
-#[derive(Drop)]
+#[derive(Clone, Copy)]
 pub(crate) struct Walked {
     pub columns: Columns,
     pub out: u16,

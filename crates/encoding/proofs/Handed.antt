@@ -2,12 +2,12 @@
 use Prim.Native.Nat.{ℕ, ◌+◌, ◌-◌, ◌*◌, ◌<◌, ◌≤◌}
 use mathlib.Core.Path.{◌≡◌, refl, sym, ap, ◌∙◌}
 use mathlib.Core.Bool.{Bool, true, false, not}
-use mathlib.Core.List.{List, [], ◌∷◌, ◌++◌}
+use mathlib.Core.List.{List, ◌++◌}
 use native.Mathlib.Omega.{arith}
 use lib.ListN.{length, length-replicate, get_or, drop, replicate, replicate-append-replicate}
 use lib.Seq.{drop_at}
 use borrow.Author.Tests.{eqb-true, not-false}
-use Rattle.laws.specs.Choose.{if◌then◌else◌, any_of}
+use Rattle.std.specs.Prelude.{if◌then◌else◌}
 use Rattle.laws.specs.Trials.{Says, answers, refuses, verdict}
 use Rattle.laws.specs.Upwards.{each}
 use Rattle.laws.proofs.Cases.{none-of}
@@ -29,7 +29,7 @@ use Rattle.encoding.specs.Encoded.{most_relations, most_grants, most_nodes, long
 use Rattle.encoding.specs.Stored.{Stored}
 use Rattle.encoding.specs.declared.Counted.{Counted}
 use Rattle.encoding.specs.declared.Counted.TheVariants.{Right, Refused}
-use Rattle.encoding.proofs.Places.{Places, places_of}
+use Rattle.encoding.proofs.Places.{places_of}
 
 -- zeros behind zeros
 abbrev zeros : ℕ → List ℕ

@@ -1,12 +1,12 @@
 -- Where the sections stand in a file whose counts are within their limits: each right behind the one before it, and all of them within the longest file where
 -- the number of pairs is one of a byte.
-use Prim.Native.Nat.{ℕ, ◌+◌, ◌*◌, ◌<◌, ◌≤◌}
+use Prim.Native.Nat.{◌+◌, ◌*◌, ◌<◌, ◌≤◌}
 use mathlib.Core.Path.{◌≡◌, refl}
 use mathlib.Core.Bool.{Bool, true, false}
 use native.Mathlib.Nat.{mul-le-mul}
 use native.Mathlib.Omega.{arith}
 use borrow.Author.Tests.{ltb-false}
-use Rattle.laws.specs.Choose.{if◌then◌else◌}
+use Rattle.std.specs.Prelude.{if◌then◌else◌}
 use Rattle.laws.proofs.Cases.{none-of}
 use Rattle.night.specs.declared.Header.{Header}
 use Rattle.night.specs.Versions.{has_pairs, header_length, grant_length, node_length}

@@ -1,14 +1,14 @@
 -- Numbers and records as runs of stores: each run stands right behind the one before it.
-use Prim.Native.Nat.{ℕ, suc, ◌+◌, ◌*◌, ◌/◌, ◌%◌, ◌^◌, ◌<◌}
+use Prim.Native.Nat.{ℕ, ◌+◌, ◌/◌, ◌%◌, ◌^◌, ◌<◌}
 use mathlib.Core.Path.{◌≡◌, refl, sym, ap, ◌∙◌}
 use mathlib.Core.Bool.{true, false}
 use mathlib.Core.List.{List, [], ◌∷◌, ◌++◌}
 use native.Mathlib.Numerals.{add-one}
 use native.Mathlib.Omega.{arith}
 use lib.ListN.{length, set, take, get_or}
-use lib.Seq.{sets, length-sets, take-suc, length-take-le}
+use lib.Seq.{length-sets, take-suc, length-take-le}
 use Rattle.laws.specs.BigEndian.{bytes}
-use Rattle.laws.specs.Choose.{if◌then◌else◌}
+use Rattle.std.specs.Prelude.{if◌then◌else◌}
 use Rattle.laws.proofs.BigEndian.{bytes_length, bytes_halves}
 use Rattle.laws.proofs.Stored.{sets_append}
 use Rattle.night.specs.declared.Header.{Header}
@@ -80,23 +80,6 @@ days_put version v at {s} {done} {after} e first last =
     let next : at + 20 ≡ at + 18 + 2 = omega arith in
     rw e (put_then 2 (bytes_length 2 v.first) first (rw next at last))
 
-pub no_days_put : (version : ℕ) (v : Grant) (at : ℕ) (s : List ℕ) → has_days version ≡ false → Stored s s at (days_of version v)
-no_days_put version v at s e = rw e (record { all = refl })
-
-pub start_put : (v : Node) (s : List ℕ) (at : ℕ)
-    → Stored s
-    (set (set (set (set (set (set (set (set s at v.kind) (at + 1) v.left) (at + 2) v.right) (at + 3) v.x) (at + 4) v.y) (at + 5) v.spare1) (at + 6) v.spare2)
-    (at + 7) v.spare3)
-    at (node_start v)
-start_put v s at =
-    let e2 : at + 2 ≡ suc (suc at) = omega arith in
-    let e3 : at + 3 ≡ suc (suc (suc at)) = omega arith in
-    let e4 : at + 4 ≡ suc (suc (suc (suc at))) = omega arith in
-    let e5 : at + 5 ≡ suc (suc (suc (suc (suc at)))) = omega arith in
-    let e6 : at + 6 ≡ suc (suc (suc (suc (suc (suc at))))) = omega arith in
-    let e7 : at + 7 ≡ suc (suc (suc (suc (suc (suc (suc at)))))) = omega arith in
-    record { all = rw (add-one at, e2, e3, e4, e5, e6, e7) refl }
-
 pub node_put : (version : ℕ) (v : Node) {s start done more sized after : List ℕ} {at : ℕ}
     → Stored s start at (node_start v)
     → Stored start done (at + 8) (bytes 8 v.set)
@@ -114,9 +97,6 @@ pub names_put : (version first count at : ℕ) (s : List ℕ) → has_pairs vers
 names_put version first count at s e =
     let next : at + 29 ≡ at + 28 + 1 = omega arith in
     rw (e, next) (pair_put s (at + 28) first count)
-
-pub no_names_put : (version first count at : ℕ) (s : List ℕ) → has_pairs version ≡ false → Stored s s at (if has_pairs version then first ∷ count ∷ [] else [])
-no_names_put version first count at s e = rw e (record { all = refl })
 
 -- what a header has behind the steps
 abbrev last_bytes : Header → List ℕ
@@ -146,9 +126,3 @@ module _ (h : Header) (s : List ℕ) where
 
   pub both_put : has_days h.version ≡ false → has_pairs h.version ≡ true → Stored s (set (set s 15 h.user) 16 h.pairs) 15 (last_bytes h)
   both_put t e = rw (t, e, pairs_deliver h.version e) (pair_put s 15 h.user h.pairs)
-
-  pub user_put : has_days h.version ≡ false → has_pairs h.version ≡ false → delivers h.version ≡ true → Stored s (set s 15 h.user) 15 (last_bytes h)
-  user_put t e d = rw (t, e, d) (one_put s 15 h.user)
-
-  pub none_put : has_days h.version ≡ false → has_pairs h.version ≡ false → delivers h.version ≡ false → Stored s s 15 (last_bytes h)
-  none_put t e d = rw (t, e, d) (record { all = refl })

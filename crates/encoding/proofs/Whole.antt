@@ -1,7 +1,7 @@
 -- The sections one behind the other are the file of the values that the arrays hold; and these fit.
-use Prim.Native.Nat.{ℕ, ◌+◌, ◌*◌, ◌<◌, ◌≤◌, ◌^◌}
-use mathlib.Core.Path.{◌≡◌, refl, sym, ap, ◌∙◌}
-use mathlib.Core.List.{List, [], ◌++◌, append_assoc}
+use Prim.Native.Nat.{ℕ, ◌*◌, ◌<◌, ◌^◌}
+use mathlib.Core.Path.{◌≡◌, sym, ap, ◌∙◌}
+use mathlib.Core.List.{List, ◌++◌, append_assoc}
 use native.Mathlib.Nat.{zero-add}
 use lib.Dec.{lit<}
 use lib.ListN.{length, length-append, get_or}
@@ -19,7 +19,7 @@ use Rattle.night.specs.Versions.{header_length, grant_length, node_length}
 use Rattle.night.specs.Night.{no_relation, no_grant, no_node}
 use Rattle.format.specs.Layout.{grants_from, nodes_from, pairs_from, pairs_in, step_prices_from, link_prices_from, header_bytes, relation_bytes, grant_bytes, node_bytes}
 use Rattle.format.proofs.Written.{header_long, relation_long, grant_long, node_long}
-use Rattle.writes.specs.Values.{Values, file_bytes}
+use Rattle.writes.specs.Values.{file_bytes}
 use Rattle.writes.specs.Back.{HeaderFits, RelationFits, GrantFits, NodeFits, ValuesFit}
 use Rattle.encoding.specs.Encoded.{held_in}
 use Rattle.encoding.specs.Stored.{Stored}

@@ -1,6 +1,5 @@
 -- The values that are handed in as arrays and slices, and the bytes that are made of them.
-use Rattle.std.specs.Prelude.{ℕ, ◌-◌, ◌<◌, ◌≡◌, not, List, ◌++◌, length, get_or, replicate}
-use Rattle.laws.specs.Choose.{if◌then◌else◌}
+use Rattle.std.specs.Prelude.{ℕ, ◌-◌, ◌<◌, ◌≡◌, not, List, ◌++◌, length, get_or, replicate, if◌then◌else◌}
 use Rattle.laws.specs.Trials.{Says, answers, refuses, verdict}
 use Rattle.laws.specs.Upwards.{each}
 use Rattle.night.specs.declared.Header.{Header}

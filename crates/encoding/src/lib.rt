@@ -1,4 +1,6 @@
 // The bytes of a plan file from its values, which are handed in as arrays with how many records there are.
+#![tactic(auto)]
+
 mod numbers;
 mod records;
 mod sections;
@@ -27,14 +29,14 @@ pub const MOST_NODES: usize = 64;
 pub const LONGEST: usize = 13_697;
 
 // Whether the values are as many as the counts say, or the first of 2, 4 and 3 that refuses them; the place is 0.
-#[derive(Drop)]
+#[derive(Clone, Copy)]
 pub enum Counted {
     Right,
     Refused { number: u8 },
 }
 
 // That answer, and beside it the file's bytes with zeros behind them, or zeros alone.
-#[derive(Drop)]
+#[derive(Clone, Copy)]
 pub struct Encoded {
     pub answer: Counted,
     pub file: [u8; LONGEST],

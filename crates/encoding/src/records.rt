@@ -1,8 +1,7 @@
 // The records of a plan file, each stored where it stands.
-ghost use Rattle.std.specs.Prelude.{◌+◌, ◌≤◌, length, [], ◌∷◌, ◌++◌};
+ghost use Rattle.std.specs.Prelude.{◌+◌, ◌≤◌, length, [], ◌∷◌, ◌++◌, if◌then◌else◌};
 ghost use Rattle.encoding.specs.Stored.{Stored};
 ghost use Rattle.laws.specs.BigEndian.{bytes};
-ghost use Rattle.laws.specs.Choose.{if◌then◌else◌};
 ghost use Rattle.night.specs.Versions.{delivers, has_pairs, has_days, header_length, grant_length, node_length};
 ghost use Rattle.format.specs.Layout.{header_bytes, relation_bytes, grant_bytes, node_start, node_bytes};
 ghost use Rattle.writes.specs.Back.{HeaderFits, RelationFits, GrantFits, NodeFits};

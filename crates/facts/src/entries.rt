@@ -7,42 +7,42 @@ use layout::values;
 use planning::{CheapestPlan, OfferedPlan, SubjectStanding};
 use reading::Checked;
 use show::{lines, rooms};
+use std::io;
 use writing::Written;
 
 // Asks the entry: 1 cheapest, 2 offered, 3 why, 4 rewrite, else check. `how` holds the entry and the lengths of the rooms.
-pub(crate) fn ask(how: &[u8], offer: &[u8], file: &[u8]) {
+pub(crate) fn ask(rt: &impl Print, how: &[u8], offer: &[u8], file: &[u8]) -> io::Result<()> {
     if how.len() < 4 {
-        return;
+        return Ok(());
     }
     let plan = wide(how[2]);
     let keys = wide(how[3]);
     if how[0] == 1 {
-        cheapest(file, wide(how[1]), plan, keys);
+        cheapest(rt, file, wide(how[1]), plan, keys)?;
     } else if how[0] == 2 {
-        offered(file, offer, plan, keys);
+        offered(rt, file, offer, plan, keys)?;
     } else if how[0] == 3 {
-        reason(file, offer);
+        reason(rt, file, offer)?;
     } else if how[0] == 4 {
-        rewrite(file, offer);
+        rewrite(rt, file, offer)?;
     } else {
-        check(file);
+        check(rt, file)?;
     }
-    io::write_all(1, b"\n");
+    lines::end(rt)
 }
 
 // The verdict of reading, and the length of the part of grant records.
-fn check(file: &[u8]) {
+fn check(rt: &impl Print, file: &[u8]) -> io::Result<()> {
     match reading::check(file) {
-        Checked::Accepted(_) => accepted(),
-        Checked::Refused { number, place } => refused(number, place),
+        Checked::Accepted(_) => accepted(rt)?,
+        Checked::Refused { number, place } => refused(rt, number, place)?,
     }
-    io::write_all(1, b", ");
-    io::print_decimal(1, reading::grant_records(file).len() as u64);
-    io::write_all(1, b" bytes of grants");
+    let n = reading::grant_records(file).len();
+    print!(rt; ", {n} bytes of grants")
 }
 
 // The cheapest plan's total and steps, with rooms of n, p and k, and whether all that had to stay in them did.
-fn cheapest(file: &[u8], n: usize, p: usize, k: usize) {
+fn cheapest(rt: &impl Print, file: &[u8], n: usize, p: usize, k: usize) -> io::Result<()> {
     let mut choice = [rooms::BYTE; 64];
     let mut plan = [rooms::WORD; 128];
     let mut keys = [rooms::WORD; 128];
@@ -54,28 +54,30 @@ fn cheapest(file: &[u8], n: usize, p: usize, k: usize) {
     );
     match said {
         CheapestPlan::Cheapest { total, steps } => {
-            costs(total);
-            counted(steps);
+            costs(rt, total)?;
+            counted(rt, steps)?;
             let h = values::header(file);
             told(
+                rt,
                 rooms::bytes_kept(&choice, h.nodes as usize),
                 rooms::words_kept(&plan, 2 * (h.nodes as usize)),
                 rooms::words_kept(&keys, 2 * (h.attributes as usize)),
-            );
+            )
         }
         CheapestPlan::Refused { number, place } => {
-            refused(number, place);
+            refused(rt, number, place)?;
             told(
+                rt,
                 rooms::bytes_kept(&choice, 0),
                 rooms::words_kept(&plan, 0),
                 rooms::words_kept(&keys, 0),
-            );
+            )
         }
     }
 }
 
 // The same of the plan for an offered choice.
-fn offered(file: &[u8], offer: &[u8], p: usize, k: usize) {
+fn offered(rt: &impl Print, file: &[u8], offer: &[u8], p: usize, k: usize) -> io::Result<()> {
     let mut plan = [rooms::WORD; 128];
     let mut keys = [rooms::WORD; 128];
     let said = planning::offered(
@@ -86,56 +88,58 @@ fn offered(file: &[u8], offer: &[u8], p: usize, k: usize) {
     );
     match said {
         OfferedPlan::Offered { total } => {
-            costs(total);
+            costs(rt, total)?;
             let h = values::header(file);
             told(
+                rt,
                 true,
                 rooms::words_kept(&plan, 2 * (h.nodes as usize)),
                 rooms::words_kept(&keys, 2 * (h.attributes as usize)),
-            );
+            )
         }
         OfferedPlan::Refused { number, place } => {
-            refused(number, place);
+            refused(rt, number, place)?;
             told(
+                rt,
                 true,
                 rooms::words_kept(&plan, 0),
                 rooms::words_kept(&keys, 0),
-            );
+            )
         }
     }
 }
 
 // Why a subject is out of a step. The offer holds the node and the subject, four bytes each.
-fn reason(file: &[u8], offer: &[u8]) {
+fn reason(rt: &impl Print, file: &[u8], offer: &[u8]) -> io::Result<()> {
     if offer.len() < 8 {
-        return;
+        return Ok(());
     }
     match planning::why(file, four(offer, 0), four(offer, 4)) {
-        SubjectStanding::Candidate => candidate(),
+        SubjectStanding::Candidate => candidate(rt),
         SubjectStanding::Out {
             table,
             condition,
             set,
-        } => out(table, condition, set),
-        SubjectStanding::Refused { number, place } => refused(number, place),
+        } => out(rt, table, condition, set),
+        SubjectStanding::Refused { number, place } => refused(rt, number, place),
     }
 }
 
 // How many bytes are written of the file's values, and whether all else in the room stayed. The offer holds the room's length, four bytes.
-fn rewrite(file: &[u8], offer: &[u8]) {
+fn rewrite(rt: &impl Print, file: &[u8], offer: &[u8]) -> io::Result<()> {
     if offer.len() < 4 {
-        return;
+        return Ok(());
     }
     let mut room = [rooms::BYTE; LONGEST];
     let lent = four(offer, 0) as usize;
     match writing::rewrite(file, rooms::bytes_front(&mut room, lent)) {
         Written::Bytes(n) => {
-            written(n);
-            told(rooms::bytes_kept(&room, n), true, true);
+            written(rt, n)?;
+            told(rt, rooms::bytes_kept(&room, n), true, true)
         }
         Written::Refused { number, place } => {
-            refused(number, place);
-            told(rooms::bytes_kept(&room, 0), true, true);
+            refused(rt, number, place)?;
+            told(rt, rooms::bytes_kept(&room, 0), true, true)
         }
     }
 }
@@ -150,46 +154,39 @@ fn four(bytes: &[u8], at: usize) -> u32
 }
 
 // Whether the rooms kept what had to stay, all three that an entry may have.
-fn told(choice: bool, plan: bool, keys: bool) {
+fn told(rt: &impl Print, choice: bool, plan: bool, keys: bool) -> io::Result<()> {
     if choice && plan && keys {
-        io::write_all(1, b", rooms kept");
+        print!(rt; ", rooms kept")
     } else {
-        io::write_all(1, b", rooms changed");
+        print!(rt; ", rooms changed")
     }
 }
 
-fn accepted() {
-    io::write_all(1, b": accepted");
+fn accepted(rt: &impl Print) -> io::Result<()> {
+    print!(rt; ": accepted")
 }
 
-fn candidate() {
-    io::write_all(1, b": candidate");
+fn candidate(rt: &impl Print) -> io::Result<()> {
+    print!(rt; ": candidate")
 }
 
-fn out(table: u8, condition: u8, set: u64) {
-    io::write_all(1, b": ");
-    lines::reason(table, condition, set);
+fn out(rt: &impl Print, table: u8, condition: u8, set: u64) -> io::Result<()> {
+    print!(rt; ": ")?;
+    lines::reason(rt, table, condition, set)
 }
 
-fn costs(total: u64) {
-    io::write_all(1, b": total ");
-    io::print_decimal(1, total);
+fn costs(rt: &impl Print, total: u64) -> io::Result<()> {
+    print!(rt; ": total {total}")
 }
 
-fn counted(steps: u32) {
-    io::write_all(1, b" steps ");
-    io::print_decimal(1, steps as u64);
+fn counted(rt: &impl Print, steps: u32) -> io::Result<()> {
+    print!(rt; " steps {steps}")
 }
 
-fn written(n: usize) {
-    io::write_all(1, b": ");
-    io::print_decimal(1, n as u64);
-    io::write_all(1, b" bytes");
+fn written(rt: &impl Print, n: usize) -> io::Result<()> {
+    print!(rt; ": {n} bytes")
 }
 
-fn refused(number: u8, place: u32) {
-    io::write_all(1, b": refused ");
-    io::print_decimal(1, number as u64);
-    io::write_all(1, b" place ");
-    io::print_decimal(1, place as u64);
+fn refused(rt: &impl Print, number: u8, place: u32) -> io::Result<()> {
+    print!(rt; ": refused {number} place {place}")
 }

@@ -2,50 +2,64 @@
 // cases one after the other: a byte with the length of the name, the name; the entry that is asked, a byte; the lengths of the rooms for choice, plan and
 // keys, a byte each; a byte with the length of the offer, the offer; two bytes with the length of the file, the file. What the entry says of each
 // is printed in one line.
+#![tactic(auto)]
+
 mod entries;
 
-ghost use Rattle.std.specs.Prelude.{◌<◌, length};
+ghost use Rattle.std.specs.Prelude.{◌<◌, ◌≡◌, length, IfOk};
 
-fn main() {
-    let mut input = [0u8; 524288];
-    let n = io::read_full(0, &mut input);
-    run(&input[..n]);
+use show::input;
+use std::io;
+
+fn main(rt: HostRuntime) -> io::Result<()> {
+    let mut room = zeros::<524288>();
+    let file = input::read(&rt, &mut room)?;
+    run(&rt, file)
+}
+
+// So many zeros. A proof that they are as many is of any number, and counts none out.
+fn zeros<const N: usize>() -> [u8; N]
+    ensures { N ≡ length result }
+{
+    [0; N]
 }
 
 // Runs every case.
-fn run(input: &[u8]) {
+fn run(rt: &impl Print, input: &[u8]) -> io::Result<()> {
     let mut at: usize = 0;
     while at < input.len() {
-        at = case_at(input, at);
+        at = case_at(rt, input, at)?;
     }
+    Ok(())
 }
 
 // Runs the case that starts at `at`, and says where the next one starts. A case that is cut off ends the run.
-fn case_at(input: &[u8], at: usize) -> usize
+fn case_at(rt: &impl Print, input: &[u8], at: usize) -> io::Result<usize>
     requires { at < length input.now }
-    ensures { at < result }
+    ensures { IfOk result (λ next. at < next) }
 {
     let asked = at + 1 + wide(input[at]);
     let offered = asked + 5;
     if input.len() < offered {
-        return input.len();
+        return Ok(input.len());
     }
     let sized = offered + wide(input[asked + 4]);
     let from = sized + 2;
     if input.len() < from {
-        return input.len();
+        return Ok(input.len());
     }
     let to = from + wide(input[sized]) * 256 + wide(input[sized + 1]);
     if input.len() < to {
-        return input.len();
+        return Ok(input.len());
     }
-    io::write_all(1, &input[at + 1..asked]);
+    rt.write_all(&input[at + 1..asked])?;
     entries::ask(
+        rt,
         &input[asked..offered],
         &input[offered..sized],
         &input[from..to],
-    );
-    to
+    )?;
+    Ok(to)
 }
 
 fn wide(x: u8) -> usize

@@ -8,7 +8,7 @@ use native.Mathlib.Omega.{arith}
 use lib.ListN.{length, length-append, get_or, take, drop}
 use lib.Seq.{take-add}
 use Rattle.laws.specs.BigEndian.{be, bytes}
-use Rattle.laws.specs.Choose.{if◌then◌else◌}
+use Rattle.std.specs.Prelude.{if◌then◌else◌}
 use Rattle.laws.proofs.BigEndian.{bytes_length, be_bytes, bytes_be}
 use Rattle.laws.proofs.Parts.{part_one, part_more}
 use Rattle.night.specs.declared.Header.{Header}
@@ -17,7 +17,7 @@ use Rattle.night.specs.declared.Grant.{Grant}
 use Rattle.night.specs.declared.Node.{Node}
 use Rattle.night.specs.Versions.{delivers, has_pairs, has_days, header_length, grant_length, node_length}
 use Rattle.night.proofs.Kept.{pairs_deliver, days_pairs}
-use Rattle.format.specs.Layout.{pairs_in, header_of, header_bytes, as_read, relation_at, relation_bytes, grant_at, grant_bytes, grant_as_read, node_at, node_start, node_bytes, node_as_read}
+use Rattle.format.specs.Layout.{pairs_in, header_of, header_bytes, as_read, relation_at, relation_bytes, grant_at, grant_bytes, grant_as_read, node_at, node_bytes, node_as_read}
 
 -- how many
 pub relation_long : (v : Relation) → length (relation_bytes v) ≡ 9

@@ -1,8 +1,7 @@
 -- Where each record of the file stands, the values that are read there, and beside each the bytes that are written for them. All numbers big-endian; a byte
 -- past the end counts as 0.
-use Rattle.std.specs.Prelude.{ℕ, ◌+◌, ◌*◌, List, [], ◌∷◌, ◌++◌, get_or}
+use Rattle.std.specs.Prelude.{ℕ, ◌+◌, ◌*◌, List, [], ◌∷◌, ◌++◌, get_or, if◌then◌else◌}
 use Rattle.laws.specs.BigEndian.{be, bytes}
-use Rattle.laws.specs.Choose.{if◌then◌else◌}
 use Rattle.laws.specs.Upwards.{each}
 use Rattle.night.specs.declared.Header.{Header}
 use Rattle.night.specs.declared.Relation.{Relation}

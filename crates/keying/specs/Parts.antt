@@ -1,6 +1,5 @@
 -- What the user opens, where everything else leaves sealed.
-use Rattle.std.specs.Prelude.{ℕ}
-use Rattle.laws.specs.Choose.{if◌then◌else◌}
+use Rattle.std.specs.Prelude.{ℕ, if◌then◌else◌}
 use Rattle.night.specs.declared.Header.{Header}
 use Rattle.night.specs.Versions.{delivers}
 use Rattle.keying.specs.declared.keys.Delivery.{Delivery}

@@ -1,6 +1,5 @@
 // The keys of any plan: which attributes share one, its name, and who holds it. A list that is too short counts as 0 past its end.
-ghost use Rattle.std.specs.Prelude.{ℕ, ◌≡◌, List, length, get_or};
-ghost use Rattle.laws.specs.Choose.{if◌then◌else◌};
+ghost use Rattle.std.specs.Prelude.{ℕ, ◌≡◌, List, length, get_or, if◌then◌else◌};
 ghost use Rattle.laws.specs.Upwards.{each};
 ghost use Rattle.sets.specs.Sets.{member, union, meet, apart, single};
 ghost use Rattle.night.specs.Kinds.{attribute};
@@ -10,7 +9,7 @@ ghost use Rattle.keying.specs.Nodes.{node_events, events_to};
 use sets::{attributes, subjects};
 
 // The delivery: the user, and what it opens.
-#[derive(Drop)]
+#[derive(Clone, Copy)]
 pub struct Delivery {
     pub user: u8,
     pub opened: u64,

@@ -1,2 +1,3 @@
--- A law that the kinds' proofs share.
+-- Laws on what is read, and what is read together.
+pub mod PlainLaws
 pub mod TogetherLaws

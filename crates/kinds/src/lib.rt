@@ -1,7 +1,10 @@
 // The kinds of node: what each uses, what it reads, what is visible after it.
+#![tactic(auto)]
+
 ghost use Rattle.std.specs.Prelude.{◌≡◌, length};
 ghost use Rattle.night.specs.Night.{Night};
 ghost use Rattle.night.specs.Kinds.{uses_left, uses_right, uses_x, uses_y, uses_set, uses_pairs, both_of, read_together, visible_after};
+ghost use Rattle.kinds.specs.Plain.{plain_reads, reads_at_once};
 
 use night::{Node, Pair};
 use sets::attributes;
@@ -107,6 +110,7 @@ pub fn both_of(q: Pair) -> u64
 }
 
 // How many sets the node reads together: one in kinds 3, 5 and 8, each of its pairs in kind 9.
+#[tactic(auto, using(crate::proofs::TogetherLaws::together_many))]
 pub fn together(v: Node) -> u8
     ensures { (N : Night) → result ≡ length (read_together N v) }
 {
@@ -164,4 +168,47 @@ pub fn visible_after(v: Node, left: u64, right: u64) -> u64
         return both;
     }
     0
+}
+
+// What a node that names no pairs reads: by its fields, so that a caller need not hand on the whole node.
+pub fn plain_reads(kind: u8, x: u8, y: u8, set: u64) -> u64
+    ensures { result ≡ plain_reads kind x y set }
+{
+    let one = attributes::single(x);
+    if kind == night::SELECT_VALUE {
+        return one;
+    }
+    let both = attributes::union(one, attributes::single(y));
+    if kind == night::SELECT_ATTRIBUTE {
+        return both;
+    }
+    if kind == night::JOIN {
+        return both;
+    }
+    if kind == night::AGGREGATE {
+        return attributes::union(set, one);
+    }
+    if kind == night::COUNT {
+        return set;
+    }
+    if kind == night::FUNCTION {
+        return set;
+    }
+    0
+}
+
+// Whether a node that names no pairs reads all that together.
+pub fn at_once(kind: u8) -> bool
+    ensures { result ≡ reads_at_once kind }
+{
+    if kind == night::SELECT_ATTRIBUTE {
+        return true;
+    }
+    if kind == night::JOIN {
+        return true;
+    }
+    if kind == night::FUNCTION {
+        return true;
+    }
+    false
 }

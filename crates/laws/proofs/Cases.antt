@@ -1,12 +1,13 @@
 -- How `search` goes through a chain of choices by the tests that a path of the code passed, and what a row of tests says where none holds.
 use Prim.Native.Nat.{ℕ, ◌<◌, ◌≤◌}
-use mathlib.Core.Path.{◌≡◌, refl}
+use mathlib.Core.Path.{◌≡◌, refl, sym}
 use mathlib.Core.Bool.{Bool, true, false, not}
 use mathlib.Core.List.{List, [], ◌∷◌}
 use native.Mathlib.Omega.{arith}
 use lib.Dec.{ltb, eqb}
 use borrow.Author.Tests.{lt-ltb, le-ltb, le-leb, lt-leb, eq-eqb, ne_eqb}
-use Rattle.laws.specs.Choose.{if◌then◌else◌, any_of}
+use Rattle.std.specs.Prelude.{if◌then◌else◌}
+use Rattle.laws.specs.Choose.{any_of}
 
 pub yes_is : {A : Type 0} (b : Bool) (r x y : A) → b ≡ true → r ≡ x → r ≡ (if b then x else y)
 yes_is b r x y e p = rw e p
@@ -47,6 +48,12 @@ NoneOf (b ∷ bs) = (b ≡ false) × NoneOf bs
 
 pub clash : true ≡ false → ⊥
 clash e = let z : ◌≡◌ {A = ℕ} 0 1 = cc in omega arith
+
+-- tests that hold together are the same
+pub tests_same : (a b : Bool) → (a ≡ true → b ≡ true) → (b ≡ true → a ≡ true) → a ≡ b
+tests_same true b f g = sym (f refl)
+tests_same false true f g = g refl
+tests_same false false f g = refl
 
 pub none-of : (bs : List Bool) → any_of bs ≡ false → NoneOf bs
 unfolding any_of

@@ -4,4 +4,4 @@ use Rattle.laws.specs.Trials.{verdict, rows, SmallRows}
 
 pub small_rows : SmallRows
 unfolding verdict rows
-small_rows = record { first_refuses = refl; none_refuses = refl; in_order = refl }
+small_rows = record { first_refuses = refl; none_refuses = refl; in-order = refl }

@@ -1,12 +1,12 @@
 -- What is made of the entries of a list, one after the other: its length, what stands at each entry's place, and when it is a part of another list.
-use Prim.Native.Nat.{ℕ, zero, suc, ◌+◌, ◌*◌, ◌<◌, ◌≤◌}
-use mathlib.Core.Path.{◌≡◌, refl, sym, ap, ◌∙◌}
+use Prim.Native.Nat.{ℕ, zero, suc, ◌+◌, ◌*◌, ◌<◌}
+use mathlib.Core.Path.{◌≡◌, refl, sym, ◌∙◌}
 use mathlib.Core.List.{List, [], ◌∷◌, ◌++◌, append_assoc, append-nil}
-use native.Mathlib.Nat.{mul-zero, mul-suc, add_assoc, add-zero, add_comm}
+use native.Mathlib.Nat.{mul-zero, mul-suc, add_assoc}
 use native.Mathlib.Numerals.{add-one}
 use native.Mathlib.Omega.{arith}
 use lib.ListN.{length, length-append, get_or, take, drop, get_or-append}
-use lib.Seq.{get_or-append-add, take-add, drop-drop, take-length}
+use lib.Seq.{get_or-append-add, take-add, drop-drop}
 use Rattle.laws.specs.InOrder.{in_order}
 use Rattle.laws.specs.Upwards.{upwards, each}
 

@@ -10,4 +10,3 @@ pub mod Stored
 pub mod InOrder
 pub mod BigEndian
 pub mod Sums
-pub mod Lent

@@ -1,7 +1,7 @@
 -- A stretch of a list, from k past a place on, by what it begins with.
 use Prim.Native.Nat.{ℕ, suc, ◌+◌, ◌<◌}
 use mathlib.Core.Path.{◌≡◌, refl}
-use mathlib.Core.List.{List, [], ◌∷◌, ◌++◌}
+use mathlib.Core.List.{List, ◌∷◌, ◌++◌}
 use native.Mathlib.Nat.{add-suc, add_assoc}
 use lib.ListN.{length, get_or, take, drop}
 use lib.Seq.{drop-cons, take-add, drop-drop}

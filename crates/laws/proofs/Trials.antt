@@ -7,7 +7,7 @@ use native.Mathlib.Numerals.{add-one}
 use native.Mathlib.Omega.{arith}
 use native.Mathlib.Decide.{le_ind}
 use lib.ListN.{length, get_or}
-use Rattle.laws.specs.Choose.{if◌then◌else◌}
+use Rattle.std.specs.Prelude.{if◌then◌else◌}
 use Rattle.laws.specs.First.{first}
 use Rattle.laws.proofs.First.{first_below, first_holds}
 use Rattle.laws.specs.Trials.{Trial, trial, Says, answers, refuses, verdict, rows, Passes, FirstToFail, RefusesExactly, AcceptsExactly}

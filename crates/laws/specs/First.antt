@@ -1,6 +1,5 @@
 -- The first number at which a test holds.
-use Rattle.std.specs.Prelude.{ℕ, zero, suc, Bool, ltb}
-use Rattle.laws.specs.Choose.{if◌then◌else◌}
+use Rattle.std.specs.Prelude.{ℕ, zero, suc, Bool, ltb, if◌then◌else◌}
 
 -- the lowest number below n at which the test holds, or n where there is none
 unfoldable pub first : (ℕ → Bool) → ℕ → ℕ

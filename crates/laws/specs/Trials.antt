@@ -1,6 +1,5 @@
 -- A row of trials and its verdict: the first trial that fails refuses, with its number and its place.
-use Rattle.std.specs.Prelude.{ℕ, zero, suc, ◌<◌, ◌≡◌, Bool, true, false, List, [], ◌∷◌, ◌++◌, ◌↔◌, length, get_or}
-use Rattle.laws.specs.Choose.{if◌then◌else◌}
+use Rattle.std.specs.Prelude.{ℕ, zero, suc, ◌<◌, ◌≡◌, Bool, true, false, List, [], ◌∷◌, ◌++◌, ◌↔◌, length, get_or, if◌then◌else◌}
 
 -- a test that may fail, and the number and place with which its failure refuses
 pub record Trial : Type 0 where

@@ -1,1 +1,2 @@
 // No code: what the proofs of every layer share.
+#![tactic(auto)]

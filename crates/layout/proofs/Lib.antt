@@ -1,2 +1,3 @@
 -- The laws of the layout.
-mod Thin
+mod Fields
+pub mod Over

@@ -1,7 +1,7 @@
 // Bytes and big-endian numbers of a slice. A byte past the end is read as 0.
-ghost use Rattle.std.specs.Prelude.{◌≡◌, ℕ, ◌+◌, ◌<◌, ◌≤◌, ◌^◌, length, get_or};
+ghost use Rattle.std.specs.Prelude.{◌≡◌, ℕ, ◌+◌, ◌<◌, ◌≤◌, ◌^◌, length, get_or, if◌then◌else◌, ◌*◌, ltb};
 ghost use Rattle.laws.specs.BigEndian.{be};
-ghost use Rattle.laws.specs.Choose.{if◌then◌else◌};
+ghost use Rattle.laws.specs.First.{first};
 
 // The byte at `at`.
 pub(crate) fn byte(file: &[u8], at: usize) -> u8
@@ -30,25 +30,14 @@ fn wide(x: u8) -> u64
     x as u64
 }
 
-// The 16-bit number at `at`: the header has such numbers, and a grant its days.
-pub(crate) fn two(file: &[u8], at: usize) -> u16
-    requires { at < 2 ^ 31 }
+// The 16-bit number at `at`, where the file has it whole.
+fn two_in(file: &[u8], at: usize) -> u16
+    requires { at + 2 ≤ length file.now }
     ensures { result ≡ be file.now at 2 }
 {
-    let a = wide(byte(file, at));
-    let b = wide(byte(file, at + 1));
+    let a = wide(file[at]);
+    let b = wide(file[at + 1]);
     (a * 256 + b) as u16
-}
-
-// The 16-bit number at `at` where there is such a field, or else another.
-pub(crate) fn two_or(there: bool, file: &[u8], at: usize, other: u16) -> u16
-    requires { at < 2 ^ 31 }
-    ensures { result ≡ (if there then be file.now at 2 else other) }
-{
-    if there {
-        return two(file, at);
-    }
-    other
 }
 
 // The 32-bit number at `at`, where the file has it whole. The compiler makes one load of a sum of this form, and of no sum of more bytes.
@@ -86,7 +75,31 @@ pub(crate) fn padded(file: &[u8], at: usize) -> [u8; 30]
     out
 }
 
-// The 32-bit number at `at`. A short file is handed on by a copy of the reference, as in the records.
+// The 16-bit number at `at`: the header has such numbers, and a grant its days. A short file is handed on by a copy of the reference, as in the records.
+pub(crate) fn two(file: &[u8], at: usize) -> u16
+    requires { at < 2 ^ 31 }
+    ensures { result ≡ be file.now at 2 }
+{
+    if file.len() < at + 2 {
+        let here = file;
+        let bytes = padded(here, at);
+        return two_in(&bytes[..30], 0);
+    }
+    two_in(file, at)
+}
+
+// The 16-bit number at `at` where there is such a field, or else another.
+pub(crate) fn two_or(there: bool, file: &[u8], at: usize, other: u16) -> u16
+    requires { at < 2 ^ 31 }
+    ensures { result ≡ (if there then be file.now at 2 else other) }
+{
+    if there {
+        return two(file, at);
+    }
+    other
+}
+
+// The 32-bit number at `at`, in the same way.
 pub(crate) fn four(file: &[u8], at: usize) -> u32
     requires { at < 2 ^ 31 }
     ensures { result ≡ be file.now at 4 }
@@ -97,4 +110,32 @@ pub(crate) fn four(file: &[u8], at: usize) -> u32
         return four_in(&bytes[..30], 0);
     }
     four_in(file, at)
+}
+
+// The 64-bit number at `at`, in the same way.
+pub(crate) fn eight(file: &[u8], at: usize) -> u64
+    requires { at < 2 ^ 31 }
+    ensures { result ≡ be file.now at 8 }
+{
+    if file.len() < at + 8 {
+        let here = file;
+        let bytes = padded(here, at);
+        return eight_in(&bytes[..30], 0);
+    }
+    eight_in(file, at)
+}
+
+// Of n 32-bit numbers from `at` on, which the file has whole, the first that is over `most`, or n where none is.
+pub(crate) fn first_over_in(file: &[u8], at: usize, n: usize, most: u32) -> usize
+    requires { (at < 2 ^ 31) × (n < 256) × (at + 4 * n ≤ length file.now) }
+    ensures { result ≡ first (λ p. ltb most (be file.now (at + 4 * p) 4)) n }
+{
+    let mut p: usize = 0;
+    while p < n {
+        if most < four_in(file, at + 4 * p) {
+            return p;
+        }
+        p += 1;
+    }
+    n
 }

@@ -1,4 +1,6 @@
 // Where each value of a plan file stands, and how it is read out of the lent bytes.
+#![tactic(auto)]
+
 mod bytes;
 pub mod opened;
 pub mod places;

@@ -6,7 +6,7 @@ ghost use Rattle.night.specs.Night.{relation_of, grant_of, node_of, pair_of};
 use crate::records;
 use night::{Grant, Header, Node, Pair, Relation};
 
-#[derive(Drop)]
+#[derive(Clone, Copy)]
 pub struct Opened<'a> {
     pub file: &'a [u8],
     pub counts: Header,

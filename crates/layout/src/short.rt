@@ -6,7 +6,7 @@ use crate::{bytes, whole};
 use night::{Grant, Node, Relation};
 
 // What stands at a place, as each kind of record. One function for all three stays out of line, and leaves the readers of whole records small.
-#[derive(Drop)]
+#[derive(Clone, Copy)]
 pub(crate) struct Records {
     pub(crate) relation: Relation,
     pub(crate) grant: Grant,

@@ -1,9 +1,12 @@
-// The values of a plan file, read through a view of it. A record past its section is all zeros.
-ghost use Rattle.std.specs.Prelude.{◌≡◌, ◌<◌, ◌+◌, ◌*◌};
-ghost use Rattle.format.specs.Layout.{header_of, night_in, nth_price};
-ghost use Rattle.night.specs.Night.{relation_of, grant_of, node_of, pair_of, step_price, link_price, no_node};
+// The values of a plan file, read through a view of it; the check's own readers, those of one field and of a row of prices go to the bytes straight. A record
+// past its section is all zeros.
+ghost use Rattle.std.specs.Prelude.{◌≡◌, ◌<◌, ◌+◌, ◌*◌, ltb};
+ghost use Rattle.laws.specs.First.{first};
+ghost use Rattle.format.specs.Layout.{header_of, nodes_from, night_in, nth_price};
+ghost use Rattle.night.specs.Versions.{node_length};
+ghost use Rattle.night.specs.Night.{relation_of, grant_of, node_of, pair_of, step_price, link_price, no_grant, no_node};
 
-use crate::{bytes, opened, places};
+use crate::{bytes, opened, places, short, whole};
 use night::{Grant, Header, Node, Pair, Relation, versions};
 
 // The header's values.
@@ -32,6 +35,19 @@ pub fn relation(file: &[u8], h: Header, i: usize) -> Relation
     opened::relation_of(opened::view_of(file, h), i)
 }
 
+// The owner of relation i alone.
+pub fn owner(file: &[u8], h: Header, i: usize) -> u8
+    ensures { result ≡ (relation_of (night_in file.now h) i).owner }
+{
+    if h.relations as usize <= i {
+        return 0;
+    }
+    bytes::byte(
+        file,
+        versions::header_length(h.version) + versions::RELATION_LENGTH * i,
+    )
+}
+
 // Grant i, where the header is h.
 pub fn grant(file: &[u8], h: Header, i: usize) -> Grant
     ensures { result ≡ grant_of (night_in file.now h) i }
@@ -39,11 +55,121 @@ pub fn grant(file: &[u8], h: Header, i: usize) -> Grant
     opened::grant_of(opened::view_of(file, h), i)
 }
 
+// Grant i again, for the check alone, which reads every grant once (`whole::node_once` says why).
+pub fn grant_once(file: &[u8], h: Header, i: usize) -> Grant
+    ensures { result ≡ grant_of (night_in file.now h) i }
+{
+    if h.grants as usize <= i {
+        return no_grant();
+    }
+    let at = places::grants_from(h) + versions::grants_length(h.version, i as u16);
+    if file.len() < at + versions::GRANT_START {
+        let here = file;
+        let all = short::all_at(here, at, h.version);
+        return all.grant;
+    }
+    whole::grant_once(file, at, h.version)
+}
+
 // Node i, where the header is h.
 pub fn node(file: &[u8], h: Header, i: usize) -> Node
     ensures { result ≡ node_of (night_in file.now h) i }
 {
     opened::node_of(opened::view_of(file, h), i)
+}
+
+// Node i again, for the check alone, which reads every node once (`whole::node_once` says why).
+pub fn node_once(file: &[u8], h: Header, i: usize) -> Node
+    ensures { result ≡ node_of (night_in file.now h) i }
+{
+    if h.nodes as usize <= i {
+        return no_node();
+    }
+    let at = places::nodes_from(h) + versions::nodes_length(h.version, i as u8);
+    if file.len() < at + versions::NODE_START {
+        let here = file;
+        let all = short::all_at(here, at, h.version);
+        return all.node;
+    }
+    whole::node_once(file, at, h.version)
+}
+
+// Where node i stands, for any that a file can have.
+fn node_from(h: Header, i: usize) -> usize
+    requires { i < 256 }
+    ensures { (result ≡ nodes_from h + node_length h.version * i) × (result < 1_600_000) }
+{
+    places::nodes_from(h) + versions::nodes_length(h.version, i as u8)
+}
+
+// One field of node i alone, for loops that ask no more of it: the whole node is not inlined where it has several callers, and goes through memory.
+pub fn kind(file: &[u8], h: Header, i: usize) -> u8
+    ensures { result ≡ (node_of (night_in file.now h) i).kind }
+{
+    if h.nodes as usize <= i {
+        return 0;
+    }
+    bytes::byte(file, node_from(h, i))
+}
+
+// The left operand of node i.
+pub fn left(file: &[u8], h: Header, i: usize) -> u8
+    ensures { result ≡ (node_of (night_in file.now h) i).left }
+{
+    if h.nodes as usize <= i {
+        return 0;
+    }
+    bytes::byte(file, node_from(h, i) + 1)
+}
+
+// The right operand of node i.
+pub fn right(file: &[u8], h: Header, i: usize) -> u8
+    ensures { result ≡ (node_of (night_in file.now h) i).right }
+{
+    if h.nodes as usize <= i {
+        return 0;
+    }
+    bytes::byte(file, node_from(h, i) + 2)
+}
+
+// The number x of node i: at a leaf its relation.
+pub fn x(file: &[u8], h: Header, i: usize) -> u8
+    ensures { result ≡ (node_of (night_in file.now h) i).x }
+{
+    if h.nodes as usize <= i {
+        return 0;
+    }
+    bytes::byte(file, node_from(h, i) + 3)
+}
+
+// The set of node i.
+pub fn set(file: &[u8], h: Header, i: usize) -> u64
+    ensures { result ≡ (node_of (night_in file.now h) i).set }
+{
+    if h.nodes as usize <= i {
+        return 0;
+    }
+    bytes::eight(file, node_from(h, i) + 8)
+}
+
+// What node i needs in clear.
+pub fn needed(file: &[u8], h: Header, i: usize) -> u64
+    ensures { result ≡ (node_of (night_in file.now h) i).needed }
+{
+    if h.nodes as usize <= i {
+        return 0;
+    }
+    bytes::eight(file, node_from(h, i) + 16)
+}
+
+// The size of node i.
+pub fn size(file: &[u8], h: Header, i: usize) -> u32
+    ensures { result ≡ (node_of (night_in file.now h) i).size }
+{
+    if h.nodes as usize <= i {
+        return 0;
+    }
+    bytes::four(file, node_from(h, i) + 24)
 }
 
 // Pair i, where the header is h.
@@ -86,12 +212,59 @@ pub fn link_price(file: &[u8], h: Header, p: usize, q: usize) -> u32
     price(file, h, places::step_prices(h) + cell(h, p, q))
 }
 
+// In row i of all prices, the rows of step prices first, the first column whose price is over `most`, or how many columns there are.
+pub fn first_over(file: &[u8], h: Header, i: usize, most: u32) -> usize
+    ensures { result ≡ first (λ p. ltb most (nth_price file.now h (i * h.subjects + p))) h.subjects }
+{
+    let n = h.subjects as usize;
+    if h.nodes as usize + n <= i {
+        return n;
+    }
+    // one test of the length stands for the whole row; a file that is too short for it is handed on by a copy of the reference, as in the records
+    let at = places::step_prices_from(h) + 4 * cell(h, i, 0);
+    if file.len() < at + 4 * n {
+        let here = file;
+        return first_over_cut(here, h, i, most);
+    }
+    bytes::first_over_in(file, at, n, most)
+}
+
+// The same in a file that ends before the row does: each price by itself.
+fn first_over_cut(file: &[u8], h: Header, i: usize, most: u32) -> usize
+    requires { i < 511 }
+    ensures { result ≡ first (λ p. ltb most (nth_price file.now h (i * h.subjects + p))) h.subjects }
+{
+    let n = h.subjects as usize;
+    let mut p: usize = 0;
+    while p < n {
+        if most < price(file, h, cell(h, i, p)) {
+            return p;
+        }
+        p += 1;
+    }
+    p
+}
+
 // The number of the price in row i and column p of a table that has a column for each subject.
 fn cell(h: Header, i: usize, p: usize) -> usize
-    requires { (i < 256) × (p < 256) }
+    requires { (i < 511) × (p < 256) }
     ensures { (result ≡ i * h.subjects + p) × (result < 131_072) }
 {
     i * (h.subjects as usize) + p
+}
+
+// What stands past the grants.
+pub(crate) fn no_grant() -> Grant
+    ensures { result ≡ no_grant }
+{
+    Grant {
+        relation: 0,
+        subject: 0,
+        first: 0,
+        last: 0,
+        clear: 0,
+        sealed: 0,
+    }
 }
 
 // What stands past the nodes.

@@ -6,7 +6,7 @@ use mathlib.Core.Logic.{◌⊎◌, inr, ⊎_elim}
 use native.Mathlib.Omega.{arith}
 use lib.Dec.{eqb}
 use borrow.Author.Tests.{eqb-true, eqb-false, eq-eqb}
-use Rattle.laws.specs.Choose.{if◌then◌else◌}
+use Rattle.std.specs.Prelude.{if◌then◌else◌}
 use Rattle.laws.proofs.Cases.{clash}
 use Rattle.sets.specs.Sets.{In}
 use Rattle.sets.proofs.Members.{same_members, in_or_not, out_member, in_union, in_minus, in_meet, in_none, in_unions}

@@ -7,7 +7,7 @@ use mathlib.Core.Logic.{◌⊎◌, inl, ⊎_elim}
 use native.Mathlib.Omega.{arith}
 use lib.Dec.{eqb}
 use borrow.Author.Tests.{eqb-true, eqb-false}
-use Rattle.laws.specs.Choose.{if◌then◌else◌}
+use Rattle.std.specs.Prelude.{if◌then◌else◌}
 use Rattle.sets.specs.Sets.{In, Within, Apart}
 use Rattle.sets.proofs.Members.{in_union, in_none}
 use Rattle.sets.proofs.Words.{some_member}

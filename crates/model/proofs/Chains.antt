@@ -9,7 +9,7 @@ use native.Mathlib.Omega.{arith}
 use lib.Dec.{ltb}
 use lib.ListN.{get_or, replicate}
 use borrow.Author.Tests.{ltb-true, ltb-false}
-use Rattle.laws.specs.Choose.{if◌then◌else◌}
+use Rattle.std.specs.Prelude.{if◌then◌else◌}
 use Rattle.laws.proofs.Upwards.{each_at, each_past}
 use Rattle.sets.specs.Sets.{In, member, union, single}
 use Rattle.sets.proofs.Members.{bit_beyond, same_members, member_in, in_member, not_member, in_union, in_none}

@@ -5,7 +5,7 @@ use mathlib.Core.List.{[], ◌++◌}
 use mathlib.Core.Logic.{◌↔◌}
 use lib.Dec.{eqb}
 use lib.ListN.{get_or}
-use Rattle.laws.specs.Choose.{if◌then◌else◌}
+use Rattle.std.specs.Prelude.{if◌then◌else◌}
 use Rattle.laws.specs.Sums.{sum}
 use Rattle.laws.specs.Trials.{verdict}
 use Rattle.sets.specs.Sets.{In, size}

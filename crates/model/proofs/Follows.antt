@@ -10,7 +10,7 @@ use native.Mathlib.Omega.{arith}
 use lib.ListN.{length, get_or, set, replicate, length-set, length-replicate}
 use lib.Seq.{get_or-set_same, get_or-set_other}
 use Rattle.laws.proofs.Cases.{clash}
-use Rattle.laws.specs.Choose.{if◌then◌else◌}
+use Rattle.std.specs.Prelude.{if◌then◌else◌}
 use Rattle.night.specs.declared.Node.{Node}
 use Rattle.night.specs.Night.{Night, node_of}
 use Rattle.night.specs.Kinds.{uses_left, uses_right, is_child}

@@ -6,7 +6,7 @@ use mathlib.Core.List.{List, [], ◌∷◌, ◌++◌, append-nil}
 use mathlib.Core.Logic.{◌⊎◌, inl, inr, ⊎_elim, ◌↔◌}
 use native.Mathlib.Nat.{lt_of_not-le}
 use native.Mathlib.Omega.{arith}
-use Rattle.laws.specs.Choose.{if◌then◌else◌}
+use Rattle.std.specs.Prelude.{if◌then◌else◌}
 use Rattle.sets.specs.Sets.{In, union, apart, single, lowest}
 use Rattle.sets.proofs.Members.{same_members, in_member, in_union, in_meet, in_none, apart_exactly}
 use Rattle.sets.proofs.Words.{in_single, lowest_in, members_lt}

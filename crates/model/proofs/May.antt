@@ -6,7 +6,7 @@ use mathlib.Core.Logic.{◌↔◌}
 use native.Mathlib.Omega.{arith}
 use lib.Dec.{eqb}
 use borrow.Author.Tests.{eqb-true, eqb-false, eq-eqb, ne_eqb, not-true}
-use Rattle.laws.specs.Choose.{if◌then◌else◌}
+use Rattle.std.specs.Prelude.{if◌then◌else◌}
 use Rattle.laws.proofs.First.{somewhere_false, nowhere}
 use Rattle.sets.specs.Sets.{In, single, unions}
 use Rattle.sets.proofs.Members.{in_unions, in_none}

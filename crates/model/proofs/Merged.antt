@@ -10,7 +10,7 @@ use native.Mathlib.Omega.{arith}
 use borrow.Author.Tests.{eqb-true}
 use lib.Dec.{eqb}
 use lib.ListN.{length, get_or}
-use Rattle.laws.specs.Choose.{if◌then◌else◌}
+use Rattle.std.specs.Prelude.{if◌then◌else◌}
 use lib.Seq.{ext_get_or}
 use Rattle.laws.proofs.Upwards.{each_length}
 use Rattle.sets.specs.Sets.{In, member, meet, below}
@@ -124,3 +124,8 @@ merged_more t u n e = rw add-one (go (eqb (get_or u n 0) 0) refl)
     go : (b : Bool) → eqb (get_or u n 0) 0 ≡ b → (if b then merged t u n else tie (merged t u n) (get_or u n 0)) ≡ tie (merged t u n) (get_or u n 0)
     go true q = rw (eqb-true (get_or u n 0) 0 q) (sym (tie_empty (merged t u n) (merged_length t u n e)))
     go false q = refl
+
+-- lists as long as each other with the same classes are the same
+pub classes_same : (T : ℕ → Type 0) (t u : List ℕ) → Classes T t → Classes T u → length t ≡ length u → t ≡ u
+classes_same T t u C D e =
+    ext_get_or 0 t u e (λ i l. same_members (get_or t i 0) (get_or u i 0) (λ j h. D.held i j (C.linked i j h)) (λ j h. C.held i j (D.linked i j h)))

@@ -7,7 +7,7 @@ use mathlib.Core.Logic.{⊎_elim, inl, inr}
 use lib.Dec.{eqb}
 use lib.ListN.{get_or, get_or-map}
 use borrow.Author.Tests.{eq-eqb, eqb-true}
-use Rattle.laws.specs.Choose.{if◌then◌else◌}
+use Rattle.std.specs.Prelude.{if◌then◌else◌}
 use Rattle.laws.specs.Upwards.{each, upwards}
 use Rattle.laws.proofs.Upwards.{upwards_same}
 use Rattle.sets.specs.Sets.{In, member, single, unions}

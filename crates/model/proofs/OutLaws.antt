@@ -111,6 +111,18 @@ module _ (N : Night) where
       each : ℕ → ℕ
       each k = out_by N (get_or t k 0)
 
+  -- so each of them puts out no others
+  pub out_one : (t : List ℕ) (k : ℕ) → k < 64 → Within (out_by N (get_or t k 0)) (out_of N t)
+  out_one t k l p h = rw (out_each t) ((in_unions (λ j. out_by N (get_or t j 0)) 64 p).1 (k, l, h))
+
+  -- and where each has grown, those whom they put out before are out still
+  pub out_grows : (t u : List ℕ) → ((k : ℕ) → Within (get_or t k 0) (get_or u k 0)) → Within (out_of N t) (out_of N u)
+  out_grows t u f p h =
+      let w = (out_of_exactly t p).0 h in
+      let whole = none_splits u (clear_of N p) (sealed_of N p) in
+      (out_of_exactly u p).1
+      (w.0, w.1, not_fails _ (λ e. clash (sym w.2 ∙ (none_splits t _ _).1 (λ k l. whole_part (get_or t k 0) (get_or u k 0) _ _ (f k) (whole.0 e k l)))))
+
   -- nobody where nothing is tied
   pub out_untied : out_of N untied ≡ 0
   out_untied =

@@ -7,7 +7,8 @@ use native.Mathlib.Nat.{le_antisymm}
 use native.Mathlib.Omega.{arith}
 use lib.Dec.{ltb, eqb}
 use borrow.Author.Tests.{ltb-true, ltb-false, eqb-true, eq-eqb, ne_eqb}
-use Rattle.laws.specs.Choose.{if◌then◌else◌, any_of}
+use Rattle.std.specs.Prelude.{if◌then◌else◌}
+use Rattle.laws.specs.Choose.{any_of}
 use Rattle.laws.specs.First.{somewhere}
 use Rattle.laws.specs.Sums.{sum}
 use Rattle.laws.proofs.Cases.{clash}

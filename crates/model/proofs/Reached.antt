@@ -8,7 +8,7 @@ use native.Mathlib.Nat.{eq-or-lt_of_le, le_of_suc-le-suc}
 use native.Mathlib.Omega.{arith}
 use lib.Dec.{eqb}
 use borrow.Author.Tests.{eqb-true, eqb-false}
-use Rattle.laws.specs.Choose.{if◌then◌else◌}
+use Rattle.std.specs.Prelude.{if◌then◌else◌}
 use Rattle.sets.specs.Sets.{In, Within, union, apart, count_below}
 use Rattle.sets.proofs.Members.{in_union, apart_exactly}
 use Rattle.sets.proofs.Words.{in_single, single_lt, union_lt, not_apart, count_most, count_grows}

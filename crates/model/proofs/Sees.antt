@@ -4,7 +4,7 @@ use mathlib.Core.Path.{◌≡◌, refl}
 use mathlib.Core.Bool.{Bool, true, false}
 use mathlib.Core.Logic.{◌⊎◌, inl, inr, ⊎_elim, ◌↔◌}
 use lib.ListN.{get_or}
-use Rattle.laws.specs.Choose.{if◌then◌else◌}
+use Rattle.std.specs.Prelude.{if◌then◌else◌}
 use Rattle.laws.proofs.Cases.{clash}
 use Rattle.sets.specs.Sets.{In, Within, union, minus, within}
 use Rattle.sets.proofs.Members.{same_members, in_or_not, in_union, in_minus, in_none, within_exactly}

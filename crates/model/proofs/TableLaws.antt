@@ -9,7 +9,8 @@ use lib.Bits.{and_zero_l, or_zero_r}
 use lib.Dec.{ltb}
 use lib.ListN.{get_or}
 use borrow.Author.Tests.{ltb-true, ltb-false, lt-ltb, eq-eqb, ne_eqb}
-use Rattle.laws.specs.Choose.{if◌then◌else◌, any_of}
+use Rattle.std.specs.Prelude.{if◌then◌else◌}
+use Rattle.laws.specs.Choose.{any_of}
 use Rattle.laws.specs.Upwards.{upwards, each}
 use Rattle.laws.proofs.Upwards.{upwards_at, upwards_past}
 use Rattle.sets.specs.Sets.{bit, member, union, meet, minus}

@@ -24,6 +24,7 @@ turn_same f g h k (suc n) p q = rw (turn_same f g h k n (λ i l. p i (omega arit
 -- the two numbers of i, whatever follows
 pub turn_at : (f g : ℕ → ℕ) (n i : ℕ) (more : List ℕ) → i < n → (get_or (in_turn f g n ++ more) (2 * i) 0 ≡ f i) × (get_or (in_turn f g n ++ more) (2 * i + 1) 0 ≡ g i)
 unfolding in_turn
+turn_at f g zero i more l = elim l [ ]
 turn_at f g (suc n) i more l = rw (append_assoc (in_turn f g n) (f n ∷ g n ∷ []) more) (⊎_elim last (λ h. turn_at f g n i (f n ∷ g n ∷ more) (omega arith)) (eq-or-lt_of_le l))
   where
     longer : length (in_turn f g n ++ (f n ∷ [])) ≡ 2 * n + 1

@@ -8,7 +8,7 @@ use native.Mathlib.Omega.{arith}
 use lib.Dec.{ltb, eqb}
 use lib.ListN.{get_or}
 use borrow.Author.Tests.{ltb-true, ltb-false, eqb-false}
-use Rattle.laws.specs.Choose.{if◌then◌else◌}
+use Rattle.std.specs.Prelude.{if◌then◌else◌}
 use Rattle.laws.specs.Upwards.{upwards}
 use Rattle.laws.proofs.Sums.{sum_last, sum_le, sum_tight, sum_add, sum_const}
 use Rattle.laws.proofs.Upwards.{upwards_past, agrees_none}

@@ -1,6 +1,5 @@
 -- Who may have a table, and who may run a step: over P and E, the attributes that a subject sees in clear and sealed.
-use Rattle.std.specs.Prelude.{ℕ, ◌<◌, ◌≡◌, Bool, true, false, not, eqb, get_or}
-use Rattle.laws.specs.Choose.{if◌then◌else◌}
+use Rattle.std.specs.Prelude.{ℕ, ◌<◌, ◌≡◌, Bool, true, false, not, eqb, get_or, if◌then◌else◌}
 use Rattle.laws.specs.First.{somewhere}
 use Rattle.sets.specs.Sets.{union, minus, within, single, unions}
 use Rattle.night.specs.Night.{Night, node_of}

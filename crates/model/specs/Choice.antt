@@ -1,6 +1,5 @@
 -- Choices of subjects, what they cost, and which is the cheapest.
-use Rattle.std.specs.Prelude.{ℕ, ◌+◌, ◌*◌, ◌<◌, ◌≤◌, ◌≡◌, eqb}
-use Rattle.laws.specs.Choose.{if◌then◌else◌}
+use Rattle.std.specs.Prelude.{ℕ, ◌+◌, ◌*◌, ◌<◌, ◌≤◌, ◌≡◌, eqb, if◌then◌else◌}
 use Rattle.laws.specs.Sums.{sum}
 use Rattle.sets.specs.Sets.{In, size}
 use Rattle.night.specs.Night.{Night, relation_of, node_of, step_price, link_price}

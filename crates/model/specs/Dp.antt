@@ -1,6 +1,5 @@
 -- The cheapest choice worked out: the least costs of every node upwards, then the subjects from the last node down.
-use Rattle.std.specs.Prelude.{ℕ, zero, suc, ◌+◌, ◌-◌, ◌*◌, true, false, List, eqb, ltb, get_or, replicate, set}
-use Rattle.laws.specs.Choose.{if◌then◌else◌}
+use Rattle.std.specs.Prelude.{ℕ, zero, suc, ◌+◌, ◌-◌, ◌*◌, true, false, List, eqb, ltb, get_or, replicate, set, if◌then◌else◌}
 use Rattle.laws.specs.Upwards.{upwards, each}
 use Rattle.sets.specs.Sets.{member, single}
 use Rattle.night.specs.Night.{Night, node_of, step_price, link_price}

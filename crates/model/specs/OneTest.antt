@@ -1,6 +1,5 @@
 -- One test in place of three tables: 1 and 2 are asked of the operands' least views joined, 3 of the result; and whom 3 puts out, set by set.
-use Rattle.std.specs.Prelude.{ℕ, ◌^◌, ◌<◌, ◌≡◌, Bool, true, false, List, [], ◌∷◌, ◌↔◌, eqb, get_or}
-use Rattle.laws.specs.Choose.{if◌then◌else◌}
+use Rattle.std.specs.Prelude.{ℕ, ◌^◌, ◌<◌, ◌≡◌, Bool, true, false, List, [], ◌∷◌, ◌↔◌, eqb, get_or, if◌then◌else◌}
 use Rattle.laws.specs.First.{somewhere}
 use Rattle.sets.specs.Sets.{minus, within, single, unions}
 use Rattle.night.specs.Night.{Night, node_of}

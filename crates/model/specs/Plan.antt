@@ -1,6 +1,5 @@
 -- The plan for a choice: what is opened and sealed where, and under which keys.
-use Rattle.std.specs.Prelude.{ℕ, zero, suc, ◌+◌, ◌-◌, ◌<◌, ◌≡◌, List, [], ◌∷◌, ◌++◌, eqb, get_or}
-use Rattle.laws.specs.Choose.{if◌then◌else◌}
+use Rattle.std.specs.Prelude.{ℕ, zero, suc, ◌+◌, ◌-◌, ◌<◌, ◌≡◌, List, [], ◌∷◌, ◌++◌, eqb, get_or, if◌then◌else◌}
 use Rattle.laws.specs.Upwards.{upwards}
 use Rattle.sets.specs.Sets.{union, meet, minus}
 use Rattle.night.specs.Night.{Night, node_of}

@@ -1,6 +1,5 @@
 -- Why a subject is out of a step: the first condition to fail, over the tables that the step's subject takes and makes.
-use Rattle.std.specs.Prelude.{ℕ, ◌<◌, ◌≤◌, ◌≡◌, true, not, List, [], ◌∷◌, ◌++◌, ◌⊎◌, ◌↔◌, eqb, get_or}
-use Rattle.laws.specs.Choose.{if◌then◌else◌}
+use Rattle.std.specs.Prelude.{ℕ, ◌<◌, ◌≤◌, ◌≡◌, true, not, List, [], ◌∷◌, ◌++◌, ◌⊎◌, ◌↔◌, eqb, get_or, if◌then◌else◌}
 use Rattle.laws.specs.First.{first, somewhere}
 use Rattle.laws.specs.Trials.{Trial, trial, Says, answers, refuses, verdict}
 use Rattle.sets.specs.Sets.{In, Within, lowest}

@@ -1,6 +1,5 @@
 -- The profile of each node's table, worked out upwards over least views.
-use Rattle.std.specs.Prelude.{ℕ, ◌<◌, ◌≡◌, true, ◌⊎◌, List, [], ◌∷◌, eqb, get_or}
-use Rattle.laws.specs.Choose.{if◌then◌else◌}
+use Rattle.std.specs.Prelude.{ℕ, ◌<◌, ◌≡◌, true, ◌⊎◌, List, [], ◌∷◌, eqb, get_or, if◌then◌else◌}
 use Rattle.laws.specs.Upwards.{upwards}
 use Rattle.sets.specs.Sets.{In, Within, union, meet, minus}
 use Rattle.night.specs.declared.Node.{Node}

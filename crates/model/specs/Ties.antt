@@ -1,6 +1,5 @@
 -- Tied sets: for each attribute the whole tied set that it stands in, empty where it is not tied.
-use Rattle.std.specs.Prelude.{ℕ, zero, suc, ◌^◌, ◌<◌, List, eqb, get_or, replicate}
-use Rattle.laws.specs.Choose.{if◌then◌else◌}
+use Rattle.std.specs.Prelude.{ℕ, zero, suc, ◌^◌, ◌<◌, List, eqb, get_or, replicate, if◌then◌else◌}
 use Rattle.laws.specs.Upwards.{each}
 use Rattle.sets.specs.Sets.{In, member, union}
 use Rattle.run.specs.Linked.{Chain}

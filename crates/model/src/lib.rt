@@ -1,8 +1,9 @@
 // What the definitions of planning are over, and what its code works out. No functions.
+#![tactic(auto)]
 
 // Attributes visible in clear and sealed, those that past steps tested in clear and sealed, and for each attribute the tied set that it
 // stands in, empty where it is not tied.
-#[derive(Drop)]
+#[derive(Clone, Copy)]
 pub struct Table {
     pub clear: u64,
     pub sealed: u64,
@@ -12,7 +13,7 @@ pub struct Table {
 }
 
 // The cheapest subject so far: whether there is one, its cost, and the lowest subject of that cost.
-#[derive(Drop)]
+#[derive(Clone, Copy)]
 pub struct Best {
     pub found: bool,
     pub least: u64,
@@ -28,7 +29,7 @@ pub const RESULT: u8 = 3;
 
 // How a subject stands to a step: it is a candidate, or out by the first condition that fails, with the number of the table, the condition
 // and the set that offends.
-#[derive(Drop)]
+#[derive(Clone, Copy)]
 pub enum Standing {
     Candidate,
     Out { table: u8, condition: u8, set: u64 },

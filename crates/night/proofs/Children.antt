@@ -6,7 +6,8 @@ use mathlib.Core.Logic.{◌⊎◌, inl, inr}
 use native.Mathlib.Omega.{arith}
 use lib.Dec.{eqb}
 use borrow.Author.Tests.{eqb-true}
-use Rattle.laws.specs.Choose.{if◌then◌else◌, any_of}
+use Rattle.std.specs.Prelude.{if◌then◌else◌}
+use Rattle.laws.specs.Choose.{any_of}
 use Rattle.night.specs.declared.Node.{Node}
 use Rattle.night.specs.Kinds.{uses_left, uses_right, is_child}
 

@@ -6,7 +6,7 @@ use mathlib.Core.Logic.{◌⊎◌, inl, inr}
 use native.Mathlib.Omega.{arith}
 use lib.Dec.{ltb}
 use borrow.Author.Tests.{ltb-true}
-use Rattle.laws.specs.Choose.{if◌then◌else◌}
+use Rattle.std.specs.Prelude.{if◌then◌else◌}
 use Rattle.laws.specs.First.{first}
 use Rattle.laws.proofs.Cases.{last_is, clash}
 use Rattle.laws.proofs.First.{first_same, first_holds}
@@ -17,7 +17,7 @@ use Rattle.night.specs.Night.{Night, relation_of, grant_of, node_of, pair_of, st
 use Rattle.night.specs.Kinds.{reads, read_together, pairs_read, its_pair, visibles, visible_step}
 use Rattle.night.specs.Views.{any_subject, is_for, in_force, is_for_on, grant_on, seen_by, view_on, view_of, clear_on, clear_of, sealed_on, sealed_of}
 use Rattle.night.specs.Promised.{Promised, SoundCounts, SoundRelation, SoundGrant, SoundNode}
-use Rattle.night.specs.Days.{in_version, on_day, Itself, SeenThen, AnyDay, OnlyInForce, Always, AlwaysFirst, AlwaysSame, ButDays}
+use Rattle.night.specs.Days.{in_version, on_day, Itself, SeenThen, AnyDay, OnlyInForce, AlwaysFirst, AlwaysSame, ButDays}
 use Rattle.night.proofs.Views.{shares-day}
 
 pub itself : Itself

@@ -7,7 +7,8 @@ use native.Mathlib.Omega.{arith}
 use lib.Dec.{eqb}
 use lib.ListN.{get_or}
 use borrow.Author.Tests.{eqb-true, ne_eqb}
-use Rattle.laws.specs.Choose.{if◌then◌else◌, any_of}
+use Rattle.std.specs.Prelude.{if◌then◌else◌}
+use Rattle.laws.specs.Choose.{any_of}
 use Rattle.laws.specs.Upwards.{upwards}
 use Rattle.laws.proofs.Upwards.{upwards_at}
 use Rattle.sets.specs.Sets.{In, union, minus}

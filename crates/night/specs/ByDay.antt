@@ -1,5 +1,5 @@
 -- Who sees what on which day, in a small night said by numbers, so that a slip in Views.antt shows here.
-use Rattle.std.specs.Prelude.{ℕ, ◌≡◌, Bool, true, false, List, [], ◌∷◌, map}
+use Rattle.std.specs.Prelude.{ℕ, ◌≡◌, true, false, List, [], ◌∷◌, map}
 use Rattle.night.specs.declared.Grant.{Grant}
 use Rattle.night.specs.declared.View.{View}
 use Rattle.night.specs.Night.{Night}

@@ -1,5 +1,5 @@
 -- What each version has, said by numbers, so that a slip in Versions.antt shows here (in the lengths that no version changes, in Rising.antt of `format`).
-use Rattle.std.specs.Prelude.{ℕ, ◌≡◌, Bool, true, false, List, [], ◌∷◌}
+use Rattle.std.specs.Prelude.{ℕ, ◌≡◌, true, false, List, [], ◌∷◌}
 use Rattle.night.specs.Versions.{known, delivers, has_pairs, has_days, last_kind, header_length, grant_length, node_length}
 
 -- of versions 1 to 4

@@ -1,6 +1,6 @@
 -- The kinds of node: what each uses, what it reads, what is visible after it.
-use Rattle.std.specs.Prelude.{ℕ, ◌+◌, Bool, false, not, List, [], ◌∷◌, eqb, get_or}
-use Rattle.laws.specs.Choose.{if◌then◌else◌, any_of}
+use Rattle.std.specs.Prelude.{ℕ, ◌+◌, Bool, false, not, List, [], ◌∷◌, eqb, get_or, if◌then◌else◌}
+use Rattle.laws.specs.Choose.{any_of}
 use Rattle.laws.specs.First.{somewhere}
 use Rattle.laws.specs.Upwards.{each, upwards}
 use Rattle.sets.specs.Sets.{union, minus, single, unions}

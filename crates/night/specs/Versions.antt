@@ -1,6 +1,6 @@
 -- What each version of the file has. A version keeps all earlier additions. Nothing else compares version numbers.
-use Rattle.std.specs.Prelude.{ℕ, Bool, [], ◌∷◌, eqb, ltb}
-use Rattle.laws.specs.Choose.{if◌then◌else◌, any_of}
+use Rattle.std.specs.Prelude.{ℕ, Bool, [], ◌∷◌, eqb, ltb, if◌then◌else◌}
+use Rattle.laws.specs.Choose.{any_of}
 
 -- the versions that are read
 unfoldable pub known : ℕ → Bool

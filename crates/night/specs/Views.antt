@@ -1,6 +1,5 @@
 -- What a subject sees.
-use Rattle.std.specs.Prelude.{ℕ, ◌<◌, ◌≤◌, ◌≡◌, Bool, false, not, eqb, ltb}
-use Rattle.laws.specs.Choose.{if◌then◌else◌}
+use Rattle.std.specs.Prelude.{ℕ, ◌<◌, ◌≤◌, ◌≡◌, Bool, false, not, eqb, ltb, if◌then◌else◌}
 use Rattle.laws.specs.First.{first}
 use Rattle.sets.specs.Sets.{unions}
 use Rattle.night.specs.declared.Grant.{Grant}

@@ -1,11 +1,13 @@
 // The values of a plan file as read, every field: what the definitions of a night are over, and what
 // reading hands out; and what each version of the file has.
+#![tactic(auto)]
+
 pub mod versions;
 
 // The header's values. In a version without a user, `user` is 0 and nothing looks at it; so with `pairs` in a version without pairs. In a version
 // without days, `day` is 0, and every grant is in force on it.
 #[repr(C)]
-#[derive(Drop)]
+#[derive(Clone, Copy)]
 pub struct Header {
     pub version: u16,
     pub subjects: u8,
@@ -21,7 +23,7 @@ pub struct Header {
 
 // A relation: its owner and its attributes.
 #[repr(C)]
-#[derive(Drop)]
+#[derive(Clone, Copy)]
 pub struct Relation {
     pub owner: u8,
     pub set: u64,
@@ -30,7 +32,7 @@ pub struct Relation {
 // A grant on a relation to a subject, or to any (255), in force from its first to its last day, both included: the attributes in clear, and those
 // sealed. In a version without days these are 0 and 65535.
 #[repr(C)]
-#[derive(Drop)]
+#[derive(Clone, Copy)]
 pub struct Grant {
     pub relation: u8,
     pub subject: u8,
@@ -42,7 +44,7 @@ pub struct Grant {
 
 // A node of the query, with its three spare bytes, and which pairs it names: the first one's number, and how many. In a version without pairs both are 0.
 #[repr(C)]
-#[derive(Drop)]
+#[derive(Clone, Copy)]
 pub struct Node {
     pub kind: u8,
     pub left: u8,
@@ -61,14 +63,14 @@ pub struct Node {
 
 // A pair of attributes that a join compares: the left operand's, and the right one's.
 #[repr(C)]
-#[derive(Drop)]
+#[derive(Clone, Copy)]
 pub struct Pair {
     pub left: u8,
     pub right: u8,
 }
 
 // What a subject sees: attributes in clear, and attributes sealed.
-#[derive(Drop)]
+#[derive(Clone, Copy)]
 pub struct View {
     pub clear: u64,
     pub sealed: u64,

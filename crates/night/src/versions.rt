@@ -22,6 +22,7 @@ pub fn known(version: u16) -> bool
 }
 
 // Whether the header names a user, to whom the root's table is delivered.
+#[tactic(auto, unfolding(crate::specs::Versions::delivers))]
 pub fn delivers(version: u16) -> bool
     ensures { result ≡ delivers version }
 {
@@ -32,6 +33,7 @@ pub fn delivers(version: u16) -> bool
 }
 
 // Whether there are pairs to join on.
+#[tactic(auto, unfolding(crate::specs::Versions::has_pairs))]
 pub fn has_pairs(version: u16) -> bool
     ensures { result ≡ has_pairs version }
 {
@@ -42,6 +44,7 @@ pub fn has_pairs(version: u16) -> bool
 }
 
 // Whether grants have days, and the night one.
+#[tactic(auto, unfolding(crate::specs::Versions::has_days))]
 pub fn has_days(version: u16) -> bool
     ensures { result ≡ has_days version }
 {

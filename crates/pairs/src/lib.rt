@@ -1,4 +1,6 @@
 // What a node reads, where the pairs that it names stand in a plan file, and the rules on them.
+#![tactic(auto)]
+
 ghost use Rattle.std.specs.Prelude.{◌+◌, ◌≡◌, map, get_or};
 ghost use Rattle.laws.specs.Choose.{any_of};
 ghost use Rattle.laws.specs.First.{somewhere};

@@ -7,7 +7,7 @@ use native.Mathlib.Omega.{arith}
 use lib.Dec.{ltb}
 use lib.ListN.{length}
 use borrow.Author.Tests.{ltb-false}
-use Rattle.laws.specs.Choose.{if◌then◌else◌}
+use Rattle.std.specs.Prelude.{if◌then◌else◌}
 use Rattle.laws.specs.Trials.{Trial, trial, refuses, verdict, Passes}
 use Rattle.night.specs.Night.{Night}
 use Rattle.verdicts.specs.Refusals.{choice_room_trials, plan_room_trials, keys_room_trials}

@@ -1,4 +1,6 @@
 // The entries of the planner. Each takes any bytes, asks nothing of its caller, and answers or refuses with a number and a place.
+#![tactic(auto)]
+
 mod rooms;
 
 ghost use Rattle.std.specs.Prelude.{◌≡◌, []};
@@ -11,7 +13,7 @@ use model::Standing;
 use reading::Checked;
 
 // The candidates of a node, as a set of subjects, or the refusal.
-#[derive(Drop)]
+#[derive(Clone, Copy)]
 pub enum CandidateSet {
     Among(u16),
     Refused { number: u8, place: u32 },
@@ -41,7 +43,7 @@ pub fn candidates(file: &[u8], node: usize) -> CandidateSet
 
 // Why a subject is out of a step: the table (1 the left operand's least view, 2 the right one's, 3 the result), the condition, and the lowest
 // attribute or the whole tied set that offends; or that it is a candidate, or the refusal.
-#[derive(Drop)]
+#[derive(Clone, Copy)]
 pub enum SubjectStanding {
     Candidate,
     Out { table: u8, condition: u8, set: u64 },
@@ -90,14 +92,14 @@ pub fn why(file: &[u8], node: u32, subject: u32) -> SubjectStanding
 }
 
 // The cheapest plan: its total and the steps, or the refusal.
-#[derive(Drop)]
+#[derive(Clone, Copy)]
 pub enum CheapestPlan {
     Cheapest { total: u64, steps: u32 },
     Refused { number: u8, place: u32 },
 }
 
 // The plan for an offered choice: its total, or the refusal.
-#[derive(Drop)]
+#[derive(Clone, Copy)]
 pub enum OfferedPlan {
     Offered { total: u64 },
     Refused { number: u8, place: u32 },

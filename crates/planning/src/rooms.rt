@@ -1,6 +1,5 @@
 // The lent rooms: which is too short, and what is written into them from the front.
-ghost use Rattle.std.specs.Prelude.{◌≤◌, ◌*◌, ◌≡◌, ◌++◌, ltb, length, get_or, drop};
-ghost use Rattle.laws.specs.Choose.{if◌then◌else◌};
+ghost use Rattle.std.specs.Prelude.{◌≤◌, ◌*◌, ◌≡◌, ◌++◌, ltb, length, get_or, drop, if◌then◌else◌};
 ghost use Rattle.laws.specs.Upwards.{each};
 ghost use Rattle.format.specs.Layout.{night_in};
 ghost use Rattle.night.specs.Promised.{Promised};

@@ -10,6 +10,7 @@ use night::versions;
 use rules::records;
 
 // 1: whether the mark is missing.
+#[tactic(auto, unfolding(trials::specs::Trials::not_marked, laws::specs::Choose::any_of))]
 fn not_marked(file: &[u8]) -> bool
     ensures { result ≡ not_marked file.now }
 {

@@ -1,4 +1,6 @@
 // Reading and checking a plan file: refusals 1 to 11 of document 01, in its order, on any bytes.
+#![tactic(auto)]
+
 mod header;
 mod nodes;
 mod prices;
@@ -15,14 +17,14 @@ use layout::{places, values};
 use night::Header;
 
 // What is said of a file: the header's values where it is accepted, or the first refusal.
-#[derive(Drop)]
+#[derive(Clone, Copy)]
 pub enum Checked {
     Accepted(Header),
     Refused { number: u8, place: u32 },
 }
 
 // The part of a file that holds the grant records, and number and place of the refusal.
-#[derive(Drop)]
+#[derive(Clone, Copy)]
 pub struct Part<'a> {
     pub records: &'a [u8],
     pub number: u8,
@@ -30,7 +32,7 @@ pub struct Part<'a> {
 }
 
 // What came of a row of trials: all passed, or the first that failed.
-#[derive(Drop)]
+#[derive(Clone, Copy)]
 enum Tried {
     Passed,
     Failed { number: u8, place: u32 },

@@ -1,6 +1,5 @@
 // Refusals 8 to 10: nodes.
-ghost use Rattle.std.specs.Prelude.{◌<◌, ◌≤◌, ◌-◌, ◌^◌, ◌≡◌, false, eqb, get_or};
-ghost use Rattle.laws.specs.Choose.{if◌then◌else◌};
+ghost use Rattle.std.specs.Prelude.{◌<◌, ◌≤◌, ◌-◌, ◌^◌, ◌≡◌, false, eqb, get_or, if◌then◌else◌};
 ghost use Rattle.laws.specs.First.{somewhere};
 ghost use Rattle.laws.specs.Trials.{verdict};
 ghost use Rattle.format.specs.Layout.{night_in};
@@ -19,7 +18,7 @@ use night::{Header, Node};
 use rules::nodes;
 
 // A node that takes something for itself: the parent of a node, the leaf of a relation.
-#[derive(Drop)]
+#[derive(Clone, Copy)]
 enum Taker {
     Parent(usize),
     Leaf(u8),

@@ -1,6 +1,6 @@
 // Nodes that break a rule.
-ghost use Rattle.std.specs.Prelude.{◌≡◌, ◌+◌, false, not, [], ◌∷◌, eqb, ltb};
-ghost use Rattle.laws.specs.Choose.{if◌then◌else◌, any_of};
+ghost use Rattle.std.specs.Prelude.{◌≡◌, ◌+◌, false, not, [], ◌∷◌, eqb, ltb, if◌then◌else◌};
+ghost use Rattle.laws.specs.Choose.{any_of};
 ghost use Rattle.trials.specs.Rules.{child_bad, left_bad, right_bad, unused_bad, names_bad, shape_bad, leaf_bad, x_bad, y_bad, set_bad, place_bad, step_bad, pair_bad, half};
 
 use night::{Header, Node, Pair, versions};

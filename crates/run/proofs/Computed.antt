@@ -11,7 +11,7 @@ use Rattle.sets.specs.Sets.{bit, member, union, meet, minus, apart, single, unio
 use Rattle.night.specs.Night.{grant_of, node_of, pair_of}
 use Rattle.night.specs.Versions.{delivers}
 use Rattle.night.specs.Kinds.{uses_left, uses_right, its_pair, both_of, pairs_read, reads, read_together, visible_after, visible_step, visibles}
-use Rattle.night.specs.Views.{is_for, shares_day, is_for_on, grant_on, view_on, clear_on, sealed_on, clear_of, sealed_of}
+use Rattle.night.specs.Views.{is_for, shares_day, is_for_on, grant_on, view_on, clear_on, sealed_on}
 use Rattle.run.specs.Linked.{one, step}
 use Rattle.run.specs.Keys.{events, ever_sealed, group_of, key_name, holders_of, key_holders}
 use Rattle.run.specs.Run.{clear, sealed, tested_by, tied_by, Tested, Tied, spread_over, spread, spread_times, reached, key_of, holders, leaving, opened_by, together, leaf_held, result_over, arriving, held_step, helds, result_of, left_arrives, right_arrives, left_opened, right_opened, arrived, opened, delivered, received, sealed_in, deliveries, all_events, seals_unclear, opens_unsealed, opens_unheld, needs_unclear, mixes, clear_column, clear_test, sealed_column, sealed_test, tied_apart, left-arrives, right-arrives, left-opened, right-opened, result_made, user_takes, user_opens, user_unheld}

@@ -7,7 +7,8 @@ use native.Mathlib.Omega.{arith}
 use lib.Count.{count_trailing_zeros}
 use lib.ListN.{get_or}
 use mathlib.Core.Logic.{inl, inr, ⊎_elim}
-use Rattle.laws.specs.Choose.{if◌then◌else◌, any_of}
+use Rattle.std.specs.Prelude.{if◌then◌else◌}
+use Rattle.laws.specs.Choose.{any_of}
 use Rattle.laws.specs.First.{first}
 use Rattle.laws.specs.Upwards.{upwards}
 use Rattle.sets.specs.Sets.{In, bit, member, union, meet, minus, apart, single, unions, lowest}
@@ -15,7 +16,7 @@ use Rattle.sets.proofs.Members.{bit_beyond, out_member, in_none}
 use Rattle.night.specs.Night.{Night, grant_of, node_of}
 use Rattle.night.specs.Versions.{delivers}
 use Rattle.night.specs.Kinds.{uses_left, uses_right, reads, read_together, visible_after, visible_step, visibles}
-use Rattle.night.specs.Views.{is_for, shares_day, is_for_on, grant_on, view_on, clear_on, sealed_on, clear_of, sealed_of}
+use Rattle.night.specs.Views.{is_for, shares_day, is_for_on, grant_on, view_on, clear_on, sealed_on}
 use Rattle.run.specs.Linked.{Chain, one, step}
 use Rattle.run.specs.Keys.{Plan, events, ever_sealed, group_of, key_name, holders_of, key_holders}
 use Rattle.run.specs.Run.{Form, absent, clear, sealed, Held, sealed_under, unsealed, tested_by, tied_by, Tested, Tied, spread_over, spread, spread_times, reached, key_of, holders, leaving, opened_by, together, leaf_held, result_over, arriving, held_step, helds, result_of, left_arrives, right_arrives, left_opened, right_opened, arrived, opened, delivered, received, sealed_in, deliveries, all_events, Stuck, seals_unclear, opens_unsealed, opens_unheld, needs_unclear, mixes, Forbidden, clear_column, clear_test, sealed_column, sealed_test, tied_apart, ForbiddenAt, left-arrives, right-arrives, left-opened, right-opened, result_made, ForbidsUser, DeliveryFails, user_takes, user_opens, user_unheld, Clean}

@@ -1,6 +1,5 @@
 -- Keys, from what each node opens and seals: which attributes share a key, its name, and who holds it.
-use Rattle.std.specs.Prelude.{ℕ, List, [], ◌∷◌}
-use Rattle.laws.specs.Choose.{if◌then◌else◌}
+use Rattle.std.specs.Prelude.{ℕ, List, [], ◌∷◌, if◌then◌else◌}
 use Rattle.laws.specs.Upwards.{each}
 use Rattle.sets.specs.Sets.{member, union, meet, apart, single, lowest}
 use Rattle.night.specs.Night.{Night}

@@ -9,7 +9,7 @@ use native.Mathlib.Decide.{le_ind}
 use lib.Dec.{ltb, leb, eqb}
 use lib.ListN.{length, get_or}
 use borrow.Author.Tests.{lt-ltb, le-ltb, ne_eqb, ltb-false}
-use Rattle.laws.specs.Choose.{if◌then◌else◌}
+use Rattle.std.specs.Prelude.{if◌then◌else◌}
 use Rattle.laws.specs.First.{first, somewhere}
 use Rattle.laws.proofs.First.{somewhere_found, somewhere_none}
 use Rattle.show.specs.Words.{is_digit, no_digit, decimal, word_of}
@@ -63,3 +63,10 @@ word_high word i some l h = go (somewhere (no_digit word) (length word))
     go : (t : Bool) → Other ≡ (if eqb (length word) 0 then Other else if t then Other else if ltb (decimal word (length word)) (2 ^ 32) then Number (decimal word (length word)) else Other)
     go true = rw (ne_eqb (length word) 0 some) refl
     go false = rw (ne_eqb (length word) 0 some, high) refl
+
+-- once the next digit, d, makes it so
+pub word_past : (word : List ℕ) (i v d : ℕ) → v ≡ decimal word i → (length word ≡ 0 → ⊥) → i < length word → d ≡ get_or word i 0 - 48 → 2 ^ 32 ≤ v * 10 + d
+    → Other ≡ word_of word
+word_past word i v d so_far some l digit h =
+    let e : v * 10 + d ≡ decimal word (i + 1) = rw decimal_more (cc) in
+    word_high word (i + 1) some (omega arith) (omega arith)

@@ -1,6 +1,5 @@
 -- Whether a room kept what stood in it.
-use Rattle.std.specs.Prelude.{ℕ, Bool, false, not, List, eqb, ltb, length, get_or}
-use Rattle.laws.specs.Choose.{if◌then◌else◌}
+use Rattle.std.specs.Prelude.{ℕ, Bool, false, not, List, eqb, ltb, length, get_or, if◌then◌else◌}
 use Rattle.laws.specs.First.{somewhere}
 
 -- from this place on, something else stands at place i

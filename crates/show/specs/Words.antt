@@ -1,6 +1,5 @@
 -- What a word says as a decimal number.
-use Rattle.std.specs.Prelude.{ℕ, zero, suc, ◌+◌, ◌-◌, ◌*◌, ◌^◌, ◌≡◌, Bool, false, not, List, [], ◌∷◌, eqb, ltb, leb, length, get_or}
-use Rattle.laws.specs.Choose.{if◌then◌else◌}
+use Rattle.std.specs.Prelude.{ℕ, zero, suc, ◌+◌, ◌-◌, ◌*◌, ◌^◌, ◌≡◌, Bool, false, not, List, [], ◌∷◌, eqb, ltb, leb, length, get_or, if◌then◌else◌}
 use Rattle.laws.specs.First.{somewhere}
 use Rattle.show.specs.declared.words.Word.{Word}
 use Rattle.show.specs.declared.words.Word.TheVariants.{Number, Other}

@@ -1,73 +1,68 @@
 // The lines of the answer.
 use sets::attributes;
+use std::io;
 
 // The first line.
-pub fn totals(total: u64, steps: u32) {
-    io::write_all(1, b"total ");
-    io::print_decimal(1, total);
-    io::write_all(1, b" steps ");
-    io::print_decimal(1, steps as u64);
-    end();
+pub fn totals(rt: &impl Print, total: u64, steps: u32) -> io::Result<()> {
+    print!(rt; "total {total} steps {steps}")?;
+    end(rt)
 }
 
 // The first line of an offered choice.
-pub fn total(total: u64) {
-    io::write_all(1, b"total ");
-    io::print_decimal(1, total);
-    end();
+pub fn total(rt: &impl Print, total: u64) -> io::Result<()> {
+    print!(rt; "total {total}")?;
+    end(rt)
 }
 
 // The only line of a refusal.
-pub fn refused(number: u8, place: u32) {
-    io::write_all(1, b"refused ");
-    io::print_decimal(1, number as u64);
-    io::write_all(1, b" place ");
-    io::print_decimal(1, place as u64);
-    end();
+pub fn refused(rt: &impl Print, number: u8, place: u32) -> io::Result<()> {
+    print!(rt; "refused {number} place {place}")?;
+    end(rt)
 }
 
 // Why a subject is out: the table, the condition and what offends.
-pub fn reason(table: u8, condition: u8, set: u64) {
-    table_word(table);
-    io::write_all(1, b" ");
-    io::print_decimal(1, condition as u64);
-    io::write_all(1, b" ");
-    members(set);
+pub fn reason(rt: &impl Print, table: u8, condition: u8, set: u64) -> io::Result<()> {
+    table_word(rt, table)?;
+    print!(rt; " {condition} ")?;
+    members(rt, set)
 }
 
-fn table_word(table: u8) {
+fn table_word(rt: &impl Print, table: u8) -> io::Result<()> {
     if table == model::LEFT {
-        io::write_all(1, b"left");
+        print!(rt; "left")
     } else if table == model::RIGHT {
-        io::write_all(1, b"right");
+        print!(rt; "right")
     } else {
-        io::write_all(1, b"result");
+        print!(rt; "result")
     }
 }
 
 // A line for each node.
-pub fn nodes(choice: &[u8], plan: &[u64], n: u8) {
+pub fn nodes(rt: &impl Print, choice: &[u8], plan: &[u64], n: u8) -> io::Result<()> {
     let mut i: usize = 0;
     while i < n as usize {
         node(
+            rt,
             i,
             subject_at(choice, i),
             number_at(plan, 2 * i),
             number_at(plan, 2 * i + 1),
-        );
+        )?;
         i += 1;
     }
+    Ok(())
 }
 
 // A line for each key, names rising: an attribute that names its own key names it first.
-pub fn keys(keys: &[u64], a: u8) {
+pub fn keys(rt: &impl Print, keys: &[u64], a: u8) -> io::Result<()> {
     let mut k: usize = 0;
     while k < a as usize {
         if number_at(keys, 2 * k) == k as u64 {
-            key(k, served(keys, a, k as u64), number_at(keys, 2 * k + 1));
+            key(rt, k, served(keys, a, k as u64), number_at(keys, 2 * k + 1))?;
         }
         k += 1;
     }
+    Ok(())
 }
 
 // The attributes that the key serves.
@@ -98,51 +93,44 @@ fn number_at(room: &[u64], i: usize) -> u64 {
     0
 }
 
-fn node(i: usize, subject: u8, opens: u64, seals: u64) {
-    io::write_all(1, b"node ");
-    io::print_decimal(1, i as u64);
-    io::write_all(1, b" subject ");
-    io::print_decimal(1, subject as u64);
-    io::write_all(1, b" opens ");
-    members(opens);
-    io::write_all(1, b" seals ");
-    members(seals);
-    end();
+fn node(rt: &impl Print, i: usize, subject: u8, opens: u64, seals: u64) -> io::Result<()> {
+    print!(rt; "node {i} subject {subject} opens ")?;
+    members(rt, opens)?;
+    print!(rt; " seals ")?;
+    members(rt, seals)?;
+    end(rt)
 }
 
-fn key(name: usize, attributes: u64, holders: u64) {
-    io::write_all(1, b"key ");
-    io::print_decimal(1, name as u64);
-    io::write_all(1, b" attributes ");
-    members(attributes);
-    io::write_all(1, b" holders ");
-    members(holders);
-    end();
+fn key(rt: &impl Print, name: usize, attributes: u64, holders: u64) -> io::Result<()> {
+    print!(rt; "key {name} attributes ")?;
+    members(rt, attributes)?;
+    print!(rt; " holders ")?;
+    members(rt, holders)?;
+    end(rt)
 }
 
 // The members of a set, rising; `-` for none.
-pub fn members(set: u64) {
+pub fn members(rt: &impl Print, set: u64) -> io::Result<()> {
     if set == 0 {
-        io::write_all(1, b"-");
-        return;
+        return print!(rt; "-");
     }
     let lowest = attributes::lowest(set);
-    io::print_decimal(1, lowest as u64);
+    print!(rt; "{lowest}")?;
     let mut k: u8 = 0;
     while k < 64 {
         if lowest < k as u32 && attributes::has(set, k) {
-            another(k);
+            another(rt, k)?;
         }
         k += 1;
     }
+    Ok(())
 }
 
-fn another(k: u8) {
-    io::write_all(1, b",");
-    io::print_decimal(1, k as u64);
+fn another(rt: &impl Print, k: u8) -> io::Result<()> {
+    print!(rt; ",{k}")
 }
 
 // The end of a line.
-pub fn end() {
-    io::write_all(1, b"\n");
+pub fn end(rt: &impl Print) -> io::Result<()> {
+    println!(rt)
 }

@@ -1,6 +1,5 @@
 // Rooms that a program lends: what stands in them before a call, and whether it still does.
-ghost use Rattle.std.specs.Prelude.{◌≡◌, false, not, eqb, ltb, take};
-ghost use Rattle.laws.specs.Choose.{if◌then◌else◌};
+ghost use Rattle.std.specs.Prelude.{◌≡◌, false, not, eqb, ltb, take, if◌then◌else◌};
 ghost use Rattle.show.specs.Kept.{kept};
 
 use crate::wide;

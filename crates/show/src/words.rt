@@ -3,9 +3,20 @@ ghost use Rattle.std.specs.Prelude.{◌≡◌};
 ghost use Rattle.show.specs.Words.{is_digit, word_of};
 
 use crate::wide;
+use std::env::{Env, FillError};
+
+// How many words the program was started with, its own name among them.
+pub fn count(rt: &impl Env) -> usize {
+    for i in 0..usize::MAX {
+        if let Err(FillError::NotPresent) = rt.arg(i, &mut []) {
+            return i;
+        }
+    }
+    usize::MAX
+}
 
 // What a word says: a decimal number below 2^32, or something else.
-#[derive(Drop)]
+#[derive(Clone, Copy)]
 pub enum Word {
     Number(u32),
     Other,
@@ -22,6 +33,7 @@ fn is_digit(b: u8) -> bool
 }
 
 // The number that a word says. Once it is too high no further digit brings it down, so a word of any length is read without a sum that wraps.
+#[tactic(auto, using(crate::proofs::Decimal::word_past))]
 pub fn number(word: &[u8]) -> Word
     ensures { result ≡ word_of word.now }
 {

@@ -1,10 +1,9 @@
 // Tables made of other tables: least views, operands joined, results. What is said of the columns holds whatever is tied.
-ghost use Rattle.std.specs.Prelude.{ℕ, ◌≡◌, List};
-ghost use Rattle.laws.specs.Choose.{if◌then◌else◌};
+ghost use Rattle.std.specs.Prelude.{ℕ, ◌≡◌, List, if◌then◌else◌};
 ghost use Rattle.night.specs.Night.{Night};
 ghost use Rattle.night.specs.Kinds.{uses_right, visible_after};
 ghost use Rattle.model.specs.Ties.{merged};
-ghost use Rattle.model.specs.Tables.{blank, shown, least_view, tests, ties, tie_all, joined, result, leaf_table};
+ghost use Rattle.model.specs.Tables.{blank, shown, least_view, tests, ties, tie_all, joined, result as result_table, leaf_table};
 ghost use Rattle.tables.specs.Columns.{with_tied, columns_of};
 
 use crate::Columns;
@@ -13,7 +12,7 @@ use sets::attributes;
 
 // No columns and no past.
 pub fn no_columns() -> Columns
-    ensures* { λ r. ⌜ r ≡ columns_of blank ⌝ }
+    ensures { result ≡ columns_of blank }
 {
     Columns {
         clear: 0,
@@ -25,7 +24,7 @@ pub fn no_columns() -> Columns
 
 // A leaf's table: its set in clear.
 pub fn leaf_columns(v: Node) -> Columns
-    ensures* { λ r. ⌜ r ≡ columns_of (leaf_table v) ⌝ }
+    ensures { result ≡ columns_of (leaf_table v) }
 {
     Columns {
         clear: v.set,
@@ -37,14 +36,14 @@ pub fn leaf_columns(v: Node) -> Columns
 
 // All that is visible.
 fn shown(t: Columns) -> u64
-    ensures* { λ r. ⌜ ((tied : List ℕ) → r ≡ shown (with_tied t tied)) ⌝ }
+    ensures { (tied : List ℕ) → result ≡ shown (with_tied t tied) }
 {
     attributes::union(t.clear, t.sealed)
 }
 
 // The least view: the needed attributes that are visible are clear, the other visible ones sealed.
 pub fn least_view(needed: u64, t: Columns) -> Columns
-    ensures* { λ r. ⌜ ((tied : List ℕ) → with_tied r tied ≡ least_view needed (with_tied t tied)) ⌝ }
+    ensures { (tied : List ℕ) → with_tied result tied ≡ least_view needed (with_tied t tied) }
 {
     let visible = shown(t);
     Columns {
@@ -57,7 +56,7 @@ pub fn least_view(needed: u64, t: Columns) -> Columns
 
 // Two operands' parts joined.
 fn join(t: Columns, u: Columns) -> Columns
-    ensures* { λ r. ⌜ ((tied other : List ℕ) → with_tied r (merged tied other 64) ≡ joined (with_tied t tied) (with_tied u other)) ⌝ }
+    ensures { (tied other : List ℕ) → with_tied result (merged tied other 64) ≡ joined (with_tied t tied) (with_tied u other) }
 {
     Columns {
         clear: attributes::union(t.clear, u.clear),
@@ -69,7 +68,7 @@ fn join(t: Columns, u: Columns) -> Columns
 
 // What the step adds to the implicit part.
 fn tests(v: Node) -> u64
-    ensures* { λ r. ⌜ r ≡ tests v ⌝ }
+    ensures { result ≡ tests v }
 {
     if v.kind == night::SELECT_VALUE {
         return attributes::single(v.x);
@@ -85,7 +84,7 @@ fn tests(v: Node) -> u64
 
 // The step's result over its operands' parts, where `after` is visible after it.
 fn result(v: Node, after: u64, t: Columns) -> Columns
-    ensures* { λ r. ⌜ ((N : Night) (tied : List ℕ) → with_tied r (tie_all tied (ties N v)) ≡ result N v after (with_tied t tied)) ⌝ }
+    ensures { (N : Night) (tied : List ℕ) → with_tied result (tie_all tied (ties N v)) ≡ result_table N v after (with_tied t tied) }
 {
     let tested = tests(v);
     Columns {
@@ -98,8 +97,8 @@ fn result(v: Node, after: u64, t: Columns) -> Columns
 
 // What the step has of its operands, of which `left` and `right` are the least views: both joined where there are two.
 pub fn taken(v: Node, left: Columns, right: Columns) -> Columns
-    ensures* { λ r. ⌜ ((tied other : List ℕ)
-        → r ≡ columns_of (if uses_right v.kind then joined (with_tied left tied) (with_tied right other) else with_tied left tied)) ⌝ }
+    ensures { (tied other : List ℕ)
+        → result ≡ columns_of (if uses_right v.kind then joined (with_tied left tied) (with_tied right other) else with_tied left tied) }
 {
     if kinds::uses_right(v.kind) {
         return join(left, right);
@@ -109,8 +108,8 @@ pub fn taken(v: Node, left: Columns, right: Columns) -> Columns
 
 // The step's table over its operands' tables l and r, of which it has `taken`.
 pub fn made(v: Node, l: Columns, r: Columns, taken: Columns) -> Columns
-    ensures* { λ t. ⌜ ((N : Night) (tied other both : List ℕ)
-        → with_tied t (tie_all both (ties N v)) ≡ result N v (visible_after v (shown (with_tied l tied)) (shown (with_tied r other))) (with_tied taken both)) ⌝ }
+    ensures { (N : Night) (tied other both : List ℕ)
+        → with_tied result (tie_all both (ties N v)) ≡ result_table N v (visible_after v (shown (with_tied l tied)) (shown (with_tied r other))) (with_tied taken both) }
 {
     result(v, kinds::visible_after(v, shown(l), shown(r)), taken)
 }

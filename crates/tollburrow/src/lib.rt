@@ -1,4 +1,6 @@
 // The planner for programs in C and Rust: every function says 0, or the refusal as its number times 2^32 and its place. A refusal writes nothing anywhere.
+#![tactic(auto)]
+
 ghost use Rattle.std.specs.Prelude.{◌≡◌, [], ◌+◌, ◌*◌};
 ghost use Rattle.reading.specs.Answers.{said_of};
 ghost use Rattle.trials.specs.Trials.{check_of};

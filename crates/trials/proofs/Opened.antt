@@ -35,6 +35,18 @@ module _ (s : List ℕ) where
     unfolding header_trials counts_bad
     nodes_few = rw same (ltb-false 64 (header_of s).nodes (none-of _ (passed (header_trials s) tt tt head).0.1.1.1.0).1.1.1.1.1.1.1.0)
 
+    pub grants_few : h.grants ≤ 272
+    unfolding header_trials counts_bad
+    grants_few = rw same (ltb-false 272 (header_of s).grants (none-of _ (passed (header_trials s) tt tt head).0.1.1.1.0).1.1.1.1.1.1.1.1.0)
+
+    pub subjects_few : h.subjects ≤ 16
+    unfolding header_trials counts_bad
+    subjects_few = rw same (ltb-false 16 (header_of s).subjects (none-of _ (passed (header_trials s) tt tt head).0.1.1.1.0).1.0)
+
+    pub relations_few : h.relations ≤ 16
+    unfolding header_trials counts_bad
+    relations_few = rw same (ltb-false 16 (header_of s).relations (none-of _ (passed (header_trials s) tt tt head).0.1.1.1.0).1.1.1.0)
+
 -- an accepted file's header, and its length
 pub accepted_header : (s : List ℕ) (h : Header) → check_of s ≡ answers h → header_of s ≡ h
 unfolding check_of

@@ -5,7 +5,7 @@ use mathlib.Core.Bool.{Bool, true, false}
 use native.Mathlib.Omega.{arith}
 use lib.Dec.{eqb}
 use borrow.Author.Tests.{ltb-false, eq-eqb, lt-ltb, le-ltb}
-use Rattle.laws.specs.Choose.{if◌then◌else◌}
+use Rattle.std.specs.Prelude.{if◌then◌else◌}
 use Rattle.laws.specs.Trials.{Passes}
 use Rattle.laws.proofs.Trials.{passes_row}
 use Rattle.night.specs.Night.{Night, node_of, step_price, link_price}

@@ -6,7 +6,8 @@ use mathlib.Core.Logic.{◌⊎◌, inl, inr}
 use native.Mathlib.Omega.{arith}
 use lib.Dec.{eqb, ltb}
 use borrow.Author.Tests.{ltb-true, ltb-false, eqb-true, eqb-false, not-false}
-use Rattle.laws.specs.Choose.{if◌then◌else◌, any_of}
+use Rattle.std.specs.Prelude.{if◌then◌else◌}
+use Rattle.laws.specs.Choose.{any_of}
 use Rattle.laws.specs.Trials.{Passes}
 use Rattle.laws.proofs.Cases.{none-of}
 use Rattle.laws.proofs.First.{somewhere_false}

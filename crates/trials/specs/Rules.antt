@@ -1,6 +1,6 @@
 -- When a record of the file breaks a rule of document 01, said of its values; what it takes from other records is handed in, a node's pairs with the night.
-use Rattle.std.specs.Prelude.{ℕ, ◌+◌, Bool, true, false, not, [], ◌∷◌, map, eqb, ltb}
-use Rattle.laws.specs.Choose.{if◌then◌else◌, any_of}
+use Rattle.std.specs.Prelude.{ℕ, ◌+◌, Bool, true, false, not, [], ◌∷◌, map, eqb, ltb, if◌then◌else◌}
+use Rattle.laws.specs.Choose.{any_of}
 use Rattle.laws.specs.First.{somewhere}
 use Rattle.sets.specs.Sets.{member, within, apart, below}
 use Rattle.night.specs.declared.Header.{Header}

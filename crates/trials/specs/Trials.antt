@@ -1,6 +1,6 @@
 -- Document 01's refusals 1 to 11 as one ordered list of trials, each with its number and its place.
-use Rattle.std.specs.Prelude.{ℕ, ◌+◌, ◌-◌, ◌*◌, ◌≡◌, Bool, false, not, List, [], ◌∷◌, ◌++◌, eqb, ltb, length, get_or}
-use Rattle.laws.specs.Choose.{if◌then◌else◌, any_of}
+use Rattle.std.specs.Prelude.{ℕ, ◌+◌, ◌-◌, ◌*◌, ◌≡◌, Bool, false, not, List, [], ◌∷◌, ◌++◌, eqb, ltb, length, get_or, if◌then◌else◌}
+use Rattle.laws.specs.Choose.{any_of}
 use Rattle.laws.specs.First.{somewhere}
 use Rattle.laws.specs.Trials.{Trial, trial, Says, answers, verdict, rows}
 use Rattle.sets.specs.Sets.{unions}

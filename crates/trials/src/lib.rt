@@ -1,5 +1,7 @@
 // The sections of the file whose records are tried one by one. No functions.
-#[derive(Drop)]
+#![tactic(auto)]
+
+#[derive(Clone, Copy)]
 pub enum Section {
     Relations,
     Grants,

@@ -11,7 +11,7 @@ use Rattle.sets.specs.Sets.{bit, member, union, meet, minus, within, apart, belo
 use Rattle.night.specs.Versions.{known, delivers, header_length, has_pairs, node_length, last_kind, has_days, grant_length}
 use Rattle.night.specs.Night.{relation_of, grant_of, node_of, step_price, link_price, pair_of}
 use Rattle.night.specs.Kinds.{uses_left, uses_right, uses_x, uses_y, uses_set, uses_pairs, its_pair, both_of, pairs_read, reads, read_together, visible_after, visible_step, visibles, is_child, taken}
-use Rattle.night.specs.Views.{is_for, shares_day, is_for_on, grant_on, view_on, clear_on, sealed_on, clear_of, sealed_of}
+use Rattle.night.specs.Views.{is_for, shares_day, is_for_on, grant_on, view_on, clear_on, sealed_on}
 use Rattle.trials.specs.Rules.{user_bad, counts_bad, relation_bad, left_over, subject_there, grant_bad, owner_bad, child_bad, left_bad, right_bad, unused_bad, shape_bad, leaf_bad, x_bad, y_bad, set_bad, place_bad, step_bad, half, needed_bad, most_for_step, most_for_link, names_bad, pair_bad, pairs_bad}
 use Rattle.format.specs.Layout.{grants_from, nodes_from, step_prices_from, link_prices_from, file_length, header_of, relation_at, grant_at, node_at, prices_at, night_in, pairs_from, pairs_in, pair_at}
 use Rattle.model.specs.Ties.{gathered, tie, merged}

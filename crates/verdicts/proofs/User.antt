@@ -6,7 +6,7 @@ use mathlib.Core.List.{List, ◌++◌, append_assoc}
 use native.Mathlib.Omega.{arith}
 use lib.Dec.{eqb}
 use borrow.Author.Tests.{eqb-false, eqb-true, eq-eqb, ne_eqb, not-false}
-use Rattle.laws.specs.Choose.{if◌then◌else◌}
+use Rattle.std.specs.Prelude.{if◌then◌else◌}
 use Rattle.laws.specs.Trials.{Trial, Says, answers, refuses, verdict}
 use Rattle.laws.proofs.Trials.{passed, passed_then, refused_then, passes_append, passes_row, passes_accepts, accepted_alike, all_refused, all_rows, rows_pass, AllTrials}
 use Rattle.sets.proofs.Members.{in_none}

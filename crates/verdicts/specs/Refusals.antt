@@ -1,6 +1,6 @@
 -- Document 01's refusals 12 to 15, ticket 2026-01's 16 and ticket 2026-02's 17 as trials, and the row of each entry: the trials of the file, then its own.
-use Rattle.std.specs.Prelude.{ℕ, ◌*◌, Bool, true, false, not, List, [], ◌∷◌, ◌++◌, eqb, ltb, length, get_or}
-use Rattle.laws.specs.Choose.{if◌then◌else◌, any_of}
+use Rattle.std.specs.Prelude.{ℕ, ◌*◌, Bool, true, false, not, List, [], ◌∷◌, ◌++◌, eqb, ltb, length, get_or, if◌then◌else◌}
+use Rattle.laws.specs.Choose.{any_of}
 use Rattle.laws.specs.Trials.{Trial, trial, Says, verdict, rows}
 use Rattle.sets.specs.Sets.{member}
 use Rattle.night.specs.declared.Header.{Header}

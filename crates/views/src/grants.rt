@@ -13,6 +13,7 @@ use night::{Grant, Header};
 pub(crate) const AT_ONCE: usize = 8;
 
 // Whether the grant is on relation r, to subject p.
+#[tactic(auto, using(laws::proofs::Cases::cases), unfolding(night::specs::Views::is_for))]
 fn is_for(g: Grant, r: u8, p: u8) -> bool
     ensures { result ≡ is_for g r p }
 {

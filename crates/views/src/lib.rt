@@ -1,4 +1,6 @@
 // What a subject sees, from the grants of a plan file.
+#![tactic(auto)]
+
 mod grants;
 
 ghost use Rattle.std.specs.Prelude.{◌≡◌, min, ◌≤◌};
@@ -40,6 +42,7 @@ fn next_grant(file: &[u8], h: Header, r: u8, p: u8, start: usize, n: usize) -> u
 }
 
 // Whether the grant shares a day with those from `from` to `to`, both included.
+#[tactic(auto, using(laws::proofs::Cases::cases), unfolding(night::specs::Views::shares_day))]
 fn shares_day(g: Grant, from: u16, to: u16) -> bool
     ensures { result ≡ shares_day g from to }
 {

@@ -1,16 +1,17 @@
 -- The values of an accepted file, written again, are its bytes.
 use Prim.Native.Nat.{ℕ, suc, ◌+◌, ◌*◌, ◌<◌, ◌≤◌, ◌^◌}
 use mathlib.Core.Path.{◌≡◌, refl, sym, ap, ◌∙◌}
-use mathlib.Core.Bool.{Bool, true, false, not}
-use mathlib.Core.List.{List, [], ◌∷◌, ◌++◌}
+use mathlib.Core.Bool.{Bool, true, false}
+use mathlib.Core.List.{List, ◌++◌}
 use native.Mathlib.Nat.{mul-le-mul, mul-suc}
 use native.Mathlib.Omega.{arith}
-use lib.Dec.{ltb, eqb, lit<}
+use lib.Dec.{lit<}
 use lib.ListN.{length, length-drop, get_or, take, drop, take-append-drop}
 use lib.Seq.{length-take-le, drop-drop, take_all, get_or-take, get_or-drop}
 use borrow.Author.Tests.{le-ltb, eqb-true, not-false}
 use Rattle.laws.specs.BigEndian.{be, bytes}
-use Rattle.laws.specs.Choose.{if◌then◌else◌, any_of}
+use Rattle.std.specs.Prelude.{if◌then◌else◌}
+use Rattle.laws.specs.Choose.{any_of}
 use Rattle.laws.specs.InOrder.{in_order}
 use Rattle.laws.specs.Trials.{Says, answers, refuses, verdict}
 use Rattle.laws.specs.Upwards.{each}
@@ -20,14 +21,14 @@ use Rattle.laws.proofs.InOrder.{in_order_part}
 use Rattle.laws.proofs.Trials.{passed, passes_append, passes_accepts, passed_then, refused_then}
 use Rattle.laws.proofs.Upwards.{each_length, each_same, each_self, each_holds}
 use Rattle.night.specs.declared.Header.{Header}
-use Rattle.night.specs.Versions.{delivers, header_length, node_length, has_days, grant_length}
+use Rattle.night.specs.Versions.{header_length, node_length, has_days, grant_length}
 use Rattle.night.specs.Night.{no_relation, no_grant, no_node}
-use Rattle.format.specs.Layout.{grants_from, nodes_from, pairs_from, pairs_in, step_prices_from, link_prices_from, file_length, header_of, as_read, header_bytes, relation_at, relation_bytes, grant_at, grant_bytes, node_at, node_bytes, night_in, night_of}
+use Rattle.format.specs.Layout.{grants_from, nodes_from, pairs_from, pairs_in, step_prices_from, link_prices_from, file_length, header_of, relation_at, relation_bytes, grant_at, grant_bytes, node_at, node_bytes, night_in, night_of}
 use Rattle.format.proofs.Written.{header_again, relation_again, grant_again, node_again}
 use Rattle.trials.specs.Trials.{not_marked, header_trials, record_trials, tree_trials, trials, check_of}
-use Rattle.writes.specs.Values.{Values, bytes_from, prices_from, file_bytes, values_of}
+use Rattle.writes.specs.Values.{bytes_from, prices_from, file_bytes, values_of}
 use Rattle.writes.specs.Writing.{miscounted, miscounted_by, write_trials, write_of, judged_by, rewrite_of}
-use Rattle.writes.specs.Back.{HeaderFits, RelationFits, GrantFits, NodeFits, ValuesFit, Bytes, SameAgain, HeadedAgain, RewrittenAlike, WrittenAgain, AcceptedAgain}
+use Rattle.writes.specs.Back.{HeaderFits, RelationFits, GrantFits, NodeFits, ValuesFit, Bytes, HeadedAgain, RewrittenAlike, AcceptedAgain}
 use Rattle.writes.proofs.Judged.{judged_alike}
 
 -- there are as many values as its counts say

@@ -7,17 +7,16 @@ use lib.Dec.{lit<}
 use Rattle.laws.specs.Choose.{any_of}
 use Rattle.laws.specs.Trials.{answers, verdict}
 use Rattle.laws.specs.Upwards.{each}
-use Rattle.laws.proofs.Trials.{passed, passes_accepts}
+use Rattle.laws.proofs.Trials.{passed}
 use Rattle.night.specs.declared.Header.{Header}
 use Rattle.night.specs.declared.Grant.{Grant}
 use Rattle.night.specs.declared.Node.{Node}
 use Rattle.night.specs.Versions.{known, delivers, has_pairs, has_days}
-use Rattle.night.specs.Night.{Night}
 use Rattle.night.specs.Days.{header_in, in_version}
 use Rattle.format.specs.Layout.{pairs_in, header_of, as_read, grant_as_read, node_as_read, pair_at, night_in, night_of}
 use Rattle.trials.specs.Rules.{counts_bad, user_bad}
 use Rattle.trials.specs.Trials.{header_trials}
-use Rattle.writes.specs.Values.{Values, with_header, night_from, file_bytes, values_of}
+use Rattle.writes.specs.Values.{Values, with_header, night_from, values_of}
 use Rattle.writes.specs.Writing.{miscounted, miscounted_by, count_trials}
 use Rattle.writes.specs.Back.{ValuesFit, Bytes, SameAgain}
 use Rattle.writes.specs.Days.{Headed, as_four, InFour}

@@ -1,25 +1,26 @@
 -- A file of values is judged as the values are, and what was written is accepted.
-use Prim.Native.Nat.{ℕ, ◌+◌, ◌*◌, ◌<◌, ◌≤◌}
+use Prim.Native.Nat.{ℕ, ◌≤◌}
 use mathlib.Core.Path.{◌≡◌, refl, sym, ap, ◌∙◌}
 use mathlib.Core.Bool.{Bool, true, false, not}
 use mathlib.Core.List.{List, [], ◌∷◌, ◌++◌, append_assoc}
 use native.Mathlib.Omega.{arith}
 use lib.Dec.{ltb, eqb}
-use lib.ListN.{length, get_or}
+use lib.ListN.{length}
 use borrow.Author.Tests.{le-ltb}
-use Rattle.laws.specs.Choose.{if◌then◌else◌, any_of}
+use Rattle.std.specs.Prelude.{if◌then◌else◌}
+use Rattle.laws.specs.Choose.{any_of}
 use Rattle.laws.specs.Trials.{Trial, trial, Says, answers, refuses, verdict}
 use Rattle.laws.proofs.Cases.{eq_fine, last_is}
 use Rattle.laws.proofs.Trials.{never, passed, passes_append, passed_then, refused_then, refused_alike, accepted_alike, append_alike}
 use Rattle.night.specs.declared.Header.{Header}
 use Rattle.night.specs.Versions.{known, delivers, header_length}
-use Rattle.format.specs.Layout.{grants_from, nodes_from, pairs_from, step_prices_from, link_prices_from, file_length, header_of, as_read, header_bytes, night_of}
+use Rattle.format.specs.Layout.{grants_from, nodes_from, pairs_from, step_prices_from, link_prices_from, file_length, header_of, as_read, header_bytes}
 use Rattle.format.proofs.Written.{header_least}
 use Rattle.trials.specs.Rules.{user_bad, counts_bad}
 use Rattle.trials.specs.Trials.{not_marked, not_versioned, header_trials, record_trials, tree_trials, trials, check_of}
 use Rattle.writes.specs.Values.{Values, night_from, file_bytes}
 use Rattle.writes.specs.Writing.{miscounted, count_trials, room_trials, write_trials, write_of, judged_by}
-use Rattle.writes.specs.Back.{ValuesFit, JudgedAlike, WrittenFile, WrittenReads}
+use Rattle.writes.specs.Back.{ValuesFit, JudgedAlike, WrittenReads}
 use Rattle.writes.proofs.Counted.{as_long}
 use Rattle.writes.proofs.ReadBack.{length_alike, header_read, reads_back, values_back}
 

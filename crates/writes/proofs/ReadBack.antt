@@ -1,13 +1,13 @@
 -- The file of values is read back as their night.
-use Prim.Native.Nat.{ℕ, ◌+◌, ◌*◌, ◌<◌, ◌≤◌, ◌^◌}
+use Prim.Native.Nat.{ℕ, ◌+◌, ◌*◌, ◌<◌, ◌^◌}
 use mathlib.Core.Path.{◌≡◌, refl, sym, ap, ◌∙◌}
 use mathlib.Core.Bool.{Bool, true, false}
-use mathlib.Core.List.{List, [], ◌++◌, append_assoc, append-nil, map, map-id}
+use mathlib.Core.List.{List, [], ◌++◌, append_assoc, append-nil, map-id}
 use native.Mathlib.Nat.{add-zero, add_assoc}
 use native.Mathlib.Omega.{arith}
 use lib.ListN.{length, length-append, get_or}
 use Rattle.laws.specs.BigEndian.{be, bytes}
-use Rattle.laws.specs.Choose.{if◌then◌else◌}
+use Rattle.std.specs.Prelude.{if◌then◌else◌}
 use Rattle.laws.specs.InOrder.{in_order}
 use Rattle.laws.specs.Upwards.{each}
 use Rattle.laws.proofs.BigEndian.{bytes_length, be_bytes, be_copied}
@@ -18,13 +18,12 @@ use Rattle.night.specs.declared.Relation.{Relation}
 use Rattle.night.specs.declared.Grant.{Grant}
 use Rattle.night.specs.declared.Node.{Node}
 use Rattle.night.specs.Versions.{has_pairs, header_length, node_length, grant_length}
-use Rattle.night.specs.Night.{Night, no_relation, no_grant, no_node}
-use Rattle.format.specs.Layout.{grants_from, nodes_from, pairs_from, pairs_in, step_prices_from, link_prices_from, file_length, header_of, as_read, header_bytes, relation_at, relation_bytes, grant_at, grant_bytes, grant_as_read, node_at, node_bytes, node_as_read, pair_at, prices_at, night_in, night_of}
+use Rattle.night.specs.Night.{no_relation, no_grant, no_node}
+use Rattle.format.specs.Layout.{grants_from, nodes_from, pairs_from, pairs_in, step_prices_from, link_prices_from, file_length, header_of, as_read, header_bytes, relation_at, relation_bytes, grant_at, grant_bytes, grant_as_read, node_at, node_bytes, node_as_read, pair_at, prices_at, night_in}
 use Rattle.format.proofs.Read.{relation_copied, grant_copied, node_copied}
 use Rattle.format.proofs.Sections.{cell_lt}
 use Rattle.format.proofs.Written.{header_long, relation_long, grant_long, node_long, header_back, relation_back, grant_back, node_back}
 use Rattle.writes.specs.Values.{Values, rows_of, night_from, file_bytes, bytes_from, prices_from, values_of, read_as}
-use Rattle.writes.specs.Writing.{miscounted}
 use Rattle.writes.specs.Back.{RelationFits, GrantFits, NodeFits, ValuesFit, ReadsBack, ValuesBack}
 use Rattle.writes.proofs.Counted.{Counted, counted_of}
 use Rattle.writes.proofs.Sections.{entry_back, section_back, byte_back}

@@ -1,7 +1,7 @@
 -- A section of records that was written is read back record by record. Said once, for any kind of record that is read back from its own bytes, as it is or
 -- without the fields that its version doesn't have.
 use Prim.Native.Nat.{ℕ, ◌+◌, ◌*◌, ◌<◌}
-use mathlib.Core.Path.{◌≡◌, refl, sym, ap, ◌∙◌}
+use mathlib.Core.Path.{◌≡◌, sym, ◌∙◌}
 use mathlib.Core.List.{List, ◌++◌, map}
 use lib.ListN.{length, length-map, get_or, get_or-append, get_or-map}
 use lib.Seq.{get_or-append-add}

@@ -1,6 +1,6 @@
 -- When a writer refuses, in order, and what stands in the lent room after it.
-use Rattle.std.specs.Prelude.{ℕ, ◌*◌, Bool, not, List, [], ◌∷◌, ◌++◌, eqb, ltb, length, drop}
-use Rattle.laws.specs.Choose.{if◌then◌else◌, any_of}
+use Rattle.std.specs.Prelude.{ℕ, ◌*◌, Bool, not, List, [], ◌∷◌, ◌++◌, eqb, ltb, length, drop, if◌then◌else◌}
+use Rattle.laws.specs.Choose.{any_of}
 use Rattle.laws.specs.Trials.{Trial, trial, Says, answers, refuses, verdict}
 use Rattle.night.specs.declared.Header.{Header}
 use Rattle.night.specs.Versions.{known}

@@ -27,7 +27,7 @@ use Rattle.encoding.proofs.Handed.{encoded_passes, encoded_refused}
 use Rattle.encoding.proofs.Places.{places_of, pairs_few}
 use Rattle.writing.specs.declared.Written.{Written}
 use Rattle.writing.specs.declared.Written.TheVariants.{Bytes, Refused}
-use Rattle.writing.specs.Answers.{written_said, WriteSays, RewriteSays, WrittenOnce, WriteOnce, RewriteOnce, passed_up, counted_up, JudgedSays}
+use Rattle.writing.specs.Answers.{WriteSays, WrittenOnce, WriteOnce, RewriteOnce, passed_up, counted_up, JudgedSays}
 
 -- any two answers that say the same are the same
 pub written_once : WrittenOnce

@@ -1,6 +1,3 @@
--- The walks over slices of records, each once for any kind, and what the answers rest on.
-mod EntryOr
-mod TakenAll
-mod Blank
+-- What the answers rest on.
 pub mod Answered
 mod Retaken

@@ -1,16 +1,14 @@
 -- The values of a file, taken into arrays, are the file's values; and what is said of writing them again.
 use Prim.Native.Nat.{ℕ, suc, ◌+◌, ◌*◌, ◌<◌, ◌≤◌}
 use mathlib.Core.Path.{◌≡◌, refl, sym, ap, ◌∙◌}
-use mathlib.Core.Bool.{false}
-use mathlib.Core.List.{List, ◌++◌}
-use native.Mathlib.Nat.{zero-add}
+use mathlib.Core.List.{List}
 use native.Mathlib.Omega.{arith}
 use lib.ListN.{length, length-set, get_or, set, take}
 use lib.Seq.{ext_get_or, get_or-take, length-take-le, take-suc-set}
 use Rattle.laws.specs.BigEndian.{be}
 use Rattle.laws.specs.Trials.{answers, refuses, verdict}
-use Rattle.laws.specs.Upwards.{each, upwards}
-use Rattle.laws.proofs.Trials.{passed, passed_then, refused_then, accepted_alike, refused_alike}
+use Rattle.laws.specs.Upwards.{upwards}
+use Rattle.laws.proofs.Trials.{passed, refused_then, accepted_alike}
 use Rattle.laws.proofs.Upwards.{each_length, each_at}
 use Rattle.night.specs.declared.Header.{Header}
 use Rattle.night.specs.declared.Relation.{Relation}
@@ -18,7 +16,7 @@ use Rattle.night.specs.declared.Grant.{Grant}
 use Rattle.night.specs.declared.Node.{Node}
 use Rattle.night.specs.declared.Pair.{Pair}
 use Rattle.night.specs.Night.{relation_of, grant_of, node_of, pair_of, no_relation, no_grant, no_node}
-use Rattle.format.specs.Layout.{pairs_from, pairs_in, step_prices_from, link_prices_from, file_length, header_of, relation_at, grant_at, node_at, pair_at, nth_price, night_in}
+use Rattle.format.specs.Layout.{pairs_from, pairs_in, step_prices_from, link_prices_from, file_length, header_of, pair_at, nth_price, night_in}
 use Rattle.format.proofs.Sections.{pair-at, price-in}
 use Rattle.trials.specs.Trials.{header_trials}
 use Rattle.reading.specs.Answers.{said_of}
@@ -27,7 +25,7 @@ use Rattle.reading.specs.declared.Checked.TheVariants.{Accepted, Refused as NotA
 use Rattle.writes.specs.Values.{Values, bytes_from, prices_from, values_of}
 use Rattle.writes.specs.Back.{Bytes}
 use Rattle.writes.proofs.Again.{headed_again, rewrite_on}
-use Rattle.writes.specs.Writing.{write_trials, rewrite_of, room_after}
+use Rattle.writes.specs.Writing.{rewrite_of, room_after}
 use Rattle.encoding.specs.Encoded.{most_relations, most_grants, most_nodes}
 use Rattle.encoding.proofs.Places.{Places, places_of}
 use Rattle.writing.specs.declared.Written.{Written}

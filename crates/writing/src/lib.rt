@@ -1,4 +1,6 @@
 // Writing a plan file: from its values, as reading gives them, into lent room. Any values may come in; a refusal writes nothing.
+#![tactic(auto)]
+
 mod again;
 mod lent;
 mod taken;
@@ -14,7 +16,7 @@ use night::{Grant, Header, Node, Relation, versions};
 use reading::Checked;
 
 // What came of the values: how many bytes were written, or the refusal.
-#[derive(Drop)]
+#[derive(Clone, Copy)]
 pub enum Written {
     Bytes(usize),
     Refused { number: u8, place: u32 },

@@ -1,0 +1,7 @@
+-- Each case moves the place on.
+use Prim.Native.Nat.{◌-◌}
+use lib.ListN.{length}
+use Rattle.facts.proofs.run.Given as goal
+
+abbrev pub decreases-loop-at : goal.decreases-loop-at
+decreases-loop-at g l = length l.input - l.at

@@ -1,0 +1,2 @@
+-- What the fields of a node say by themselves, where it names no pairs.
+pub mod Plain
