@@ -1,4 +1,4 @@
-/* Tollburrow for C and C++: link target/staticlib/libtollburrow.a (written by `rt staticlib tollburrow`, for x86-64).
+/* Tollburrow for C and C++: link crates/tollburrow/out/libtollburrow.a (written by `rt lib` in crates/tollburrow, for x86-64).
  *
  * Every function takes any bytes or values and ends. It returns 0, or the refusal as number * 2^32 + place (the numbers and places of the rules' table). A refusal
  * writes nothing anywhere.
