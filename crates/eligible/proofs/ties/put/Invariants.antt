@@ -9,11 +9,11 @@ use Rattle.sets.specs.Sets.{member}
 use Rattle.eligible.proofs.ties.put.Given as goal
 
 -- the tied set of attribute k after `all` is tied
-abbrev tiedAt : List ℕ → ℕ → ℕ → ℕ
-tiedAt tied all k = if member all k then all else get_or tied k 0
+abbrev tied_at : List ℕ → ℕ → ℕ → ℕ
+tied_at tied all k = if member all k then all else get_or tied k 0
 
 abbrev pub invariant-loop-k : goal.invariant-loop-k
-invariant-loop-k l = (l.k ≤ 64) × (length l.tied ≡ length l.initial.tied) × (l.tied ≡ each l.k (tiedAt l.initial.tied l.all) ++ drop l.k l.initial.tied)
+invariant-loop-k l = (l.k ≤ 64) × (length l.tied ≡ length l.initial.tied) × (l.tied ≡ each l.k (tied_at l.initial.tied l.all) ++ drop l.k l.initial.tied)
 
 abbrev pub decreases-loop-k : goal.decreases-loop-k
 decreases-loop-k l = 64 - l.k

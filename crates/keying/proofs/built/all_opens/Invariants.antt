@@ -10,11 +10,11 @@ use Rattle.format.specs.Layout.{night_in}
 use Rattle.keying.proofs.built.all_opens.Given as goal
 
 -- what node i needs
-abbrev needs-at : List ℕ → Header → ℕ → ℕ
-needs-at s h i = (node_of (night_in s h) i).needed
+abbrev needs_at : List ℕ → Header → ℕ → ℕ
+needs_at s h i = (node_of (night_in s h) i).needed
 
 abbrev pub invariant-loop-i : goal.invariant-loop-i
-invariant-loop-i l = (length l.opens ≡ 64) × (l.i ≤ 64) × Agrees (λ before. needs-at l.file l.h) 0 l.i l.opens
+invariant-loop-i l = (length l.opens ≡ 64) × (l.i ≤ 64) × Agrees (λ before. needs_at l.file l.h) 0 l.i l.opens
 
 abbrev pub decreases-loop-i : goal.decreases-loop-i
 decreases-loop-i l = 64 - l.i
