@@ -1,27 +1,32 @@
 // The lines of a case.
 use layout::{places, values};
-use planning::{CandidateSet, CheapestPlan, OfferedPlan};
-use reading::{Checked, Part};
+use planning::CheapestPlan;
 use show::{lines, rooms};
 use std::io;
 
-// Answers case k, with rooms of n bytes, p and q numbers.
+// How long the rooms are that a case lends.
+#[derive(Clone, Copy)]
+pub(crate) struct Lengths {
+    pub(crate) choice: usize,
+    pub(crate) plan: usize,
+    pub(crate) keys: usize,
+}
+
+// Answers case k.
 pub(crate) fn answer(
     rt: &impl Print,
     k: u64,
     file: &[u8],
     offer: &[u8],
-    n: usize,
-    p: usize,
-    q: usize,
+    lent: Lengths,
 ) -> io::Result<()> {
     println!(rt; "case {k}")?;
     print!(rt; "grants ")?;
     grants(rt, file)?;
     candidates(rt, file)?;
-    let first = cheapest(rt, file, n, p, q)?;
+    let first = cheapest(rt, file, lent)?;
     print!(rt; "offered ")?;
-    let second = offered(rt, file, offer, p, q)?;
+    let second = offered(rt, file, offer, lent)?;
     if first && second {
         println!(rt; "rooms kept")
     } else {
@@ -29,48 +34,32 @@ pub(crate) fn answer(
     }
 }
 
-// Where the part of grant records lies, or the refusal that stands beside it.
+// Where the part of grant records lies, or the refusal.
 fn grants(rt: &impl Print, file: &[u8]) -> io::Result<()> {
-    told(rt, file, reading::grant_records_told(file))
-}
-
-// Takes the struct apart and does no more.
-fn told<'a>(rt: &impl Print, file: &'a [u8], part: Part<'a>) -> io::Result<()> {
-    part_line(rt, file, part.records, part.number, part.place)
-}
-
-// The line of the part; number and place are 0 where the file is accepted.
-fn part_line<'a>(
-    rt: &impl Print,
-    file: &'a [u8],
-    records: &'a [u8],
-    number: u8,
-    place: u32,
-) -> io::Result<()> {
-    if number != 0 {
-        return lines::refused(rt, number, place);
+    match reading::grant_records_told(file) {
+        Ok(records) => {
+            let from = places::grants_from(values::header(file));
+            let n = records.len();
+            println!(rt; "{from} {n}")
+        }
+        Err(refusal) => lines::refused(rt, refusal),
     }
-    let from = places::grants_from(values::header(file));
-    let n = records.len();
-    println!(rt; "{from} {n}")
 }
 
 // A line for each node, or the refusal.
 fn candidates(rt: &impl Print, file: &[u8]) -> io::Result<()> {
     match reading::check(file) {
-        Checked::Accepted(h) => every_node(rt, file, h.nodes),
-        Checked::Refused { number, place } => {
+        Ok(h) => every_node(rt, file, h.nodes),
+        Err(refusal) => {
             print!(rt; "candidates ")?;
-            lines::refused(rt, number, place)
+            lines::refused(rt, refusal)
         }
     }
 }
 
 fn every_node(rt: &impl Print, file: &[u8], n: u8) -> io::Result<()> {
-    let mut i: u8 = 0;
-    while i < n {
+    for i in 0..n {
         candidates_of(rt, file, i)?;
-        i += 1;
     }
     Ok(())
 }
@@ -78,73 +67,71 @@ fn every_node(rt: &impl Print, file: &[u8], n: u8) -> io::Result<()> {
 fn candidates_of(rt: &impl Print, file: &[u8], i: u8) -> io::Result<()> {
     print!(rt; "candidates ")?;
     match planning::candidates(file, i as usize) {
-        CandidateSet::Among(set) => {
+        Ok(set) => {
             print!(rt; "{i} ")?;
             lines::members(rt, set as u64)?;
             lines::end(rt)
         }
-        CandidateSet::Refused { number, place } => lines::refused(rt, number, place),
+        Err(refusal) => lines::refused(rt, refusal),
     }
 }
 
 // The cheapest plan's lines; whether all that had to stay in the rooms did.
-fn cheapest(rt: &impl Print, file: &[u8], n: usize, p: usize, q: usize) -> io::Result<bool> {
+fn cheapest(rt: &impl Print, file: &[u8], lent: Lengths) -> io::Result<bool> {
     let mut choice = [rooms::BYTE; 64];
     let mut plan = [rooms::WORD; 128];
     let mut keys = [rooms::WORD; 128];
     let said = planning::cheapest(
         file,
-        rooms::bytes_front(&mut choice, n),
-        rooms::words_front(&mut plan, p),
-        rooms::words_front(&mut keys, q),
+        rooms::front(&mut choice, lent.choice),
+        rooms::front(&mut plan, lent.plan),
+        rooms::front(&mut keys, lent.keys),
     );
     match said {
-        CheapestPlan::Cheapest { total, steps } => {
+        Ok(CheapestPlan { total, steps }) => {
             lines::totals(rt, total, steps)?;
             let h = values::header(file);
             lines::nodes(rt, &choice, &plan, h.nodes)?;
             lines::keys(rt, &keys, h.attributes)?;
-            let first = rooms::bytes_kept(&choice, h.nodes as usize);
-            let others = kept(&plan, &keys, h.nodes, h.attributes);
-            Ok(first && others)
+            Ok(
+                rooms::kept(&choice, rooms::BYTE, h.nodes as usize)
+                    && plan_kept(&plan, &keys, h.nodes, h.attributes),
+            )
         }
-        CheapestPlan::Refused { number, place } => {
-            lines::refused(rt, number, place)?;
-            let first = rooms::bytes_kept(&choice, 0);
-            let others = kept(&plan, &keys, 0, 0);
-            Ok(first && others)
+        Err(refusal) => {
+            lines::refused(rt, refusal)?;
+            Ok(rooms::kept(&choice, rooms::BYTE, 0) && plan_kept(&plan, &keys, 0, 0))
         }
     }
 }
 
 // Whether plan and keys hold their first contents past those of n nodes and of a attributes.
-fn kept(plan: &[u64], keys: &[u64], n: u8, a: u8) -> bool {
-    let second = rooms::words_kept(plan, 2 * (n as usize));
-    let third = rooms::words_kept(keys, 2 * (a as usize));
-    second && third
+fn plan_kept(plan: &[u64], keys: &[u64], n: u8, a: u8) -> bool {
+    rooms::kept(plan, rooms::WORD, 2 * (n as usize))
+        && rooms::kept(keys, rooms::WORD, 2 * (a as usize))
 }
 
 // The same of the plan for the offered choice, with the subjects as offered.
-fn offered(rt: &impl Print, file: &[u8], offer: &[u8], p: usize, q: usize) -> io::Result<bool> {
+fn offered(rt: &impl Print, file: &[u8], offer: &[u8], lent: Lengths) -> io::Result<bool> {
     let mut plan = [rooms::WORD; 128];
     let mut keys = [rooms::WORD; 128];
     let said = planning::offered(
         file,
         offer,
-        rooms::words_front(&mut plan, p),
-        rooms::words_front(&mut keys, q),
+        rooms::front(&mut plan, lent.plan),
+        rooms::front(&mut keys, lent.keys),
     );
     match said {
-        OfferedPlan::Offered { total } => {
+        Ok(total) => {
             lines::total(rt, total)?;
             let h = values::header(file);
             lines::nodes(rt, offer, &plan, h.nodes)?;
             lines::keys(rt, &keys, h.attributes)?;
-            Ok(kept(&plan, &keys, h.nodes, h.attributes))
+            Ok(plan_kept(&plan, &keys, h.nodes, h.attributes))
         }
-        OfferedPlan::Refused { number, place } => {
-            lines::refused(rt, number, place)?;
-            Ok(kept(&plan, &keys, 0, 0))
+        Err(refusal) => {
+            lines::refused(rt, refusal)?;
+            Ok(plan_kept(&plan, &keys, 0, 0))
         }
     }
 }

@@ -4,18 +4,17 @@
 
 mod cases;
 
-ghost use Rattle.std.specs.Prelude.{◌<◌, ◌≤◌, length};
+ghost use Rattle.std.specs.Prelude.{◌≤◌, length};
 
+use cases::Lengths;
 use show::input;
 use std::io;
 
 fn main(rt: HostRuntime) -> io::Result<()> {
-    let mut k: u64 = 0;
-    while k < 0xffff_ffff_ffff_ffff {
+    for k in 0..u64::MAX {
         if !next(&rt, k)? {
             return Ok(());
         }
-        k += 1;
     }
     Ok(())
 }
@@ -30,60 +29,30 @@ fn next(rt: &(impl Input + Print), k: u64) -> io::Result<bool> {
     if n < 14 {
         return cut(rt);
     }
-    let file = four(&head, 0);
-    let offer = four(&head, 4);
+    let [f0, f1, f2, f3, o0, o1, o2, o3, c0, c1, p0, p1, k0, k1] = head;
+    let file = u32::from_be_bytes([f0, f1, f2, f3]) as usize;
+    let offer = u32::from_be_bytes([o0, o1, o2, o3]) as usize;
     if 16384 < file || 255 < offer {
         return cut(rt);
     }
-    whole(
-        rt,
-        k,
-        file,
-        offer,
-        two(&head, 8),
-        two(&head, 10),
-        two(&head, 12),
-    )
+    let lent = Lengths {
+        choice: u16::from_be_bytes([c0, c1]) as usize,
+        plan: u16::from_be_bytes([p0, p1]) as usize,
+        keys: u16::from_be_bytes([k0, k1]) as usize,
+    };
+    whole(rt, k, file, offer, lent)
 }
 
-// Reads the file and the offer, and answers.
-fn whole(
-    rt: &(impl Input + Print),
-    k: u64,
-    m: usize,
-    o: usize,
-    n: usize,
-    p: usize,
-    q: usize,
-) -> io::Result<bool>
+// Reads the file of m bytes and the offer of o, and answers.
+fn whole(rt: &(impl Input + Print), k: u64, m: usize, o: usize, lent: Lengths) -> io::Result<bool>
     requires { (m ≤ 16384) × (o ≤ 255) }
 {
     let mut file = [0u8; 16384];
     let mut offer = [0u8; 255];
-    if !filled(rt, &mut file, m)? {
+    if !filled(rt, &mut file, m)? || !filled(rt, &mut offer, o)? {
         return cut(rt);
     }
-    if !filled(rt, &mut offer, o)? {
-        return cut(rt);
-    }
-    asked(rt, k, &file, &offer, m, o, n, p, q)
-}
-
-// The case cut to its lengths.
-fn asked(
-    rt: &impl Print,
-    k: u64,
-    file: &[u8],
-    offer: &[u8],
-    m: usize,
-    o: usize,
-    n: usize,
-    p: usize,
-    q: usize,
-) -> io::Result<bool>
-    requires { (m ≤ length file.now) × (o ≤ length offer.now) }
-{
-    cases::answer(rt, k, &file[..m], &offer[..o], n, p, q)?;
+    cases::answer(rt, k, &file[..m], &offer[..o], lent)?;
     Ok(true)
 }
 
@@ -92,35 +61,6 @@ fn filled(rt: &impl Input, room: &mut [u8], n: usize) -> io::Result<bool>
     requires { n ≤ length room.old }
 {
     Ok(input::read_full(rt, &mut room[..n])? == n)
-}
-
-// Numbers of the head: a byte past its end counts as 0.
-fn byte(head: &[u8], at: usize) -> usize
-    ensures { result < 256 }
-{
-    if at < head.len() {
-        return wide(head[at]);
-    }
-    0
-}
-
-fn wide(x: u8) -> usize
-    ensures { result < 256 }
-{
-    x as usize
-}
-
-fn two(head: &[u8], at: usize) -> usize
-    requires { at < 100 }
-    ensures { result < 65536 }
-{
-    byte(head, at) * 256 + byte(head, at + 1)
-}
-
-fn four(head: &[u8], at: usize) -> usize
-    requires { at < 90 }
-{
-    two(head, at) * 65536 + two(head, at + 2)
 }
 
 fn cut(rt: &impl Print) -> io::Result<bool> {

@@ -8,10 +8,10 @@ use native.Mathlib.Omega.{arith}
 use lib.Dec.{ltb, eqb}
 use lib.ListN.{length, get_or, set, replicate, length-set, length-replicate}
 use lib.Seq.{get_or-set_same, get_or-set_other}
-use borrow.Author.Tests.{eqb-true, eqb-false}
-use Rattle.std.specs.Prelude.{if◌then◌else◌}
-use Rattle.laws.specs.Upwards.{upwards}
-use Rattle.laws.proofs.Upwards.{agrees_none, agrees_more}
+use borrow.Author.Tests.{ltb-true, ltb-false, eqb-true, eqb-false}
+use Rattle.std.specs.Prelude.{Option, Some, None, unwrap_or, if◌then◌else◌}
+use Rattle.laws.specs.Upwards.{upwards, each}
+use Rattle.laws.proofs.Upwards.{Agrees, agrees_none, agrees_more, each_at, each_past}
 use Rattle.sets.specs.Sets.{In, member}
 use Rattle.sets.proofs.Members.{member_in}
 use Rattle.night.specs.declared.Node.{Node}
@@ -19,11 +19,12 @@ use Rattle.night.specs.Night.{Night, node_of, step_price}
 use Rattle.night.specs.Kinds.{uses_left, uses_right}
 use Rattle.night.specs.Promised.{Promised}
 use Rattle.model.specs.declared.Best.{Best}
-use Rattle.model.specs.Dp.{subjects_of, better, handed_on, best_of, no_row, best_child, row_entry, row_step, cost_rows, give_child, give_both, give_down, best_last}
+use Rattle.model.specs.Dp.{subjects_of, least_of, lowest_of, better, handed_on, best_of, no_row, best_child, row_entry, row_step, cost_rows, give_child, give_both, give_down, best_last}
 use Rattle.model.proofs.CostRows.{subject-there}
 use Rattle.model.proofs.Follows.{down_more}
+use Rattle.model.proofs.Lowest.{best_none, best_more}
 use Rattle.model.proofs.Weight.{best_most, row_most, offer_most}
-use Rattle.choosing.specs.Held.{HasSets, HasRows, Fits, Given}
+use Rattle.choosing.specs.Held.{HasSets, HasRows, Fits, Finds, Searched, Given}
 use Rattle.choosing.proofs.Sets.{set_at, same_default}
 
 -- child k as it is read: its row, its set and its size
@@ -45,16 +46,23 @@ module _ (N : Night) (i : ℕ) (rows : List (List ℕ)) (has : HasRows N i rows)
     pub fits_held : (s : ℕ) → s < N.header.subjects → Fits N (get_or rows k no_row) (subjects_of N k) (node_of N k).size s
     fits_held s p t g e = rw (has.held k) (offer_most N sound i k s t l h p (subject-there N sound k h t e))
 
+    pub searched : k < 64 → (s : ℕ) → s < N.header.subjects → Searched N rows k s
+    searched few s p = (few, has.long, fits_held s p)
+
     -- nothing is handed on
     pub fits_alone : Fits N (get_or rows k no_row) (subjects_of N k) 0 0
     unfolding handed_on
     fits_alone t g e = rw (has.held k, zero-mul) (omega (arith, row_most N sound i k t l))
 
+  -- a child of node i is lower
+  pub lower_searched : Promised N → i < N.header.nodes → (k : ℕ) → k < i → (s : ℕ) → s < N.header.subjects → Searched N rows k s
+  lower_searched sound l k lower s p = searched sound (omega arith) k (omega arith) (omega (arith, sound.counts.nodes_most)) s p
+
   -- node i's entry from its parts
   pub entry_made : (s : ℕ) (v : Node) → v ≡ node_of N i → (a b : Bool) → a ≡ uses_left v.kind → b ≡ uses_right v.kind → (p x y : ℕ)
       → p ≡ (if eqb (node_of N i).kind 0 then 0 else step_price N i s)
-      → x ≡ (if a then (best_child N rows v.left s).least else 0)
-      → y ≡ (if b then (best_child N rows v.right s).least else 0)
+      → x ≡ (if a then least_of (best_child N rows v.left s) else 0)
+      → y ≡ (if b then least_of (best_child N rows v.right s) else 0)
       → p + x + y ≡ row_entry N (upwards (row_step N) i) i s
   unfolding row_entry
   entry_made s v read a b e f p x y g m n = rw (g, m, n, e, f, child_held v.left s, child_held v.right s, read) refl
@@ -66,6 +74,19 @@ rows_none N = record { long = refl; held = agrees_none (row_step N) no_row 64 }
 pub rows_more : (N : Night) (i : ℕ) (rows : List (List ℕ)) (row : List ℕ) → HasRows N i rows → i < 64 → row ≡ row_step N (upwards (row_step N) i) i → HasRows N (i + 1) (set rows i row)
 rows_more N i rows row has l e =
     record { long = length-set rows i row ∙ has.long; held = agrees_more (row_step N) no_row i row rows (rw has.long l) has.held e }
+
+-- a subject that has no entry leaves its place in a row as it is
+pub entry_none : (f : ℕ → ℕ) (i : ℕ) (row : List ℕ) → Agrees (λ before. f) 0 i row → f i ≡ 0 → Agrees (λ before. f) 0 (i + 1) row
+entry_none f i row a z k = a k ∙ go (ltb k i) (eqb k i) refl refl
+  where
+    go : (b x : Bool) → ltb k i ≡ b → eqb k i ≡ x → get_or (each i f) k 0 ≡ get_or (each (i + 1) f) k 0
+    go true x e q =
+        let l : k < i = ltb-true k i e in
+        each_at f 0 k i l ∙ sym (each_at f 0 k (i + 1) (omega arith))
+    go false true e q =
+        let same : k ≡ i = eqb-true k i q in
+        each_past f 0 k i (ltb-false k i e) ∙ sym (each_at f 0 k (i + 1) (omega arith) ∙ rw same z)
+    go false false e q = each_past f 0 k i (ltb-false k i e) ∙ sym (each_past f 0 k (i + 1) (omega (arith, ltb-false k i e, eqb-false k i q)))
 
 -- a turn from the last node down
 pub down_turn : (N : Night) (rows : List (List ℕ)) (m : ℕ) (c d : List ℕ) → 0 < m → d ≡ give_both N rows (m - 1) c → give_down N rows (m - 1) d ≡ give_down N rows m c
@@ -94,37 +115,42 @@ module _ (N : Night) (sound : Promised N) (rows : List (List ℕ)) (sets : List 
   last_made = rw (set_at N sets _ has last_few, same_default rows (N.header.nodes - 1) [] no_row last_long, all.held (N.header.nodes - 1)) refl
 
   -- a child's subject from its parent's
-  pub child_given : (c : List ℕ) (i k : ℕ) (b : Best) → b ≡ best_child N rows k (get_or c i 0) → set c k b.lowest ≡ give_child N (cost_rows N) i k c
+  pub child_given : (c : List ℕ) (i k : ℕ) (b : ℕ) → b ≡ lowest_of (best_child N rows k (get_or c i 0)) → set c k b ≡ give_child N (cost_rows N) i k c
   unfolding give_child cost_rows
   child_given c i k b e = rw (e, child_held N N.header.nodes rows all k (get_or c i 0)) refl
 
 -- the least of what fits
-pub child_most : (N : Night) (rows : List (List ℕ)) (k s : ℕ) → Fits N (get_or rows k no_row) (subjects_of N k) (node_of N k).size s → (best_child N rows k s).least ≤ 129064000000
+pub child_most : (N : Night) (rows : List (List ℕ)) (k s : ℕ) → Fits N (get_or rows k no_row) (subjects_of N k) (node_of N k).size s → least_of (best_child N rows k s) ≤ 129064000000
 unfolding best_child
 child_most N rows k s fits = best_most N (get_or rows k no_row) (subjects_of N k) (node_of N k).size s 16 129064000000 fits
 
+-- what the code reads of a search
+pub finds : (found : Option Best) (b : Best) → b ≡ unwrap_or found (record { least = 0; lowest = 0 }) → Finds found b
+finds None b e = rw e (refl, refl)
+finds (Some x) b e = rw e (refl, refl)
+
+-- for `search`: a loop over the subjects
+pub ruleset best_loop = (best_none, best_more, finds)
+
 -- a search among subjects below m gives one below m, also where it finds none
-better_below : (b : Best) (cost t m : ℕ) → t < m → b.lowest < m → (better b cost t).lowest < m
+better_below : (b : Option Best) (cost t m : ℕ) → t < m → lowest_of b < m → lowest_of (better b cost t) < m
 unfolding better
-better_below b cost t m l h = go b.found (ltb cost b.least)
+better_below None cost t m l h = l
+better_below (Some b) cost t m l h = go (ltb cost b.least)
   where
-    new : Best
-    new = record { found = true; least = cost; lowest = t }
+    go : (y : Bool) → lowest_of (if y then Some (record { least = cost; lowest = t }) else Some b) < m
+    go true = l
+    go false = h
 
-    go : (x y : Bool) → (if x then if y then new else b else new).lowest < m
-    go true true = l
-    go true false = h
-    go false y = l
-
-best_below : (N : Night) (row : List ℕ) (among size s k m : ℕ) → 0 < m → ((t : ℕ) → t < k → In t among → t < m) → (best_of N row among size s k).lowest < m
+best_below : (N : Night) (row : List ℕ) (among size s k m : ℕ) → 0 < m → ((t : ℕ) → t < k → In t among → t < m) → lowest_of (best_of N row among size s k) < m
 unfolding best_of
 best_below N row among size s zero m p h = p
 best_below N row among size s (suc k) m p h = go (member among k) refl (best_below N row among size s k m p (λ t l. h t (omega arith)))
   where
-    b : Best
+    b : Option Best
     b = best_of N row among size s k
 
-    go : (x : Bool) → member among k ≡ x → b.lowest < m → (if x then better b (handed_on N row size s k) k else b).lowest < m
+    go : (x : Bool) → member among k ≡ x → lowest_of b < m → lowest_of (if x then better b (handed_on N row size s k) k else b) < m
     go true e r = better_below b (handed_on N row size s k) k m (h k (omega arith) (member_in among k e)) r
     go false e r = r
 
@@ -155,11 +181,11 @@ module _ (N : Night) (sound : Promised N) where
       }
 
   -- what the rows give is a subject of the night
-  pub child_below : (rows : List (List ℕ)) (k s : ℕ) → k < N.header.nodes → (best_child N rows k s).lowest < N.header.subjects
+  pub child_below : (rows : List (List ℕ)) (k s : ℕ) → k < N.header.nodes → lowest_of (best_child N rows k s) < N.header.subjects
   unfolding best_child
   child_below rows k s l = best_below N _ (subjects_of N k) _ s 16 _ sound.counts.subjects_some (λ t g. subject-there N sound k l t)
 
-  pub last_below : (rows : List (List ℕ)) → (best_last N rows).lowest < N.header.subjects
+  pub last_below : (rows : List (List ℕ)) → lowest_of (best_last N rows) < N.header.subjects
   unfolding best_last
   last_below rows =
       best_below N _ (subjects_of N (N.header.nodes - 1)) _ 0 16 _ sound.counts.subjects_some

@@ -1,7 +1,6 @@
 -- What the choice rests on.
 pub mod Sets
 pub mod Held
-mod Summed
 pub mod Offers
 pub mod Answered
 mod Users

@@ -7,6 +7,7 @@ use lib.Dec.{eqb}
 use lib.ListN.{get_or}
 use borrow.Author.Tests.{eq-eqb, ne_eqb}
 use Rattle.std.specs.Prelude.{if◌then◌else◌}
+use Rattle.laws.proofs.Sums.{sum_none, sum_more}
 use Rattle.sets.specs.Sets.{member}
 use Rattle.night.specs.declared.Node.{Node}
 use Rattle.night.specs.Night.{Night, relation_of, node_of, step_price, link_price}
@@ -50,3 +51,6 @@ handed_most N sound d A i k l h = link_most N sound k (d k) (d i) h (d_there N s
 -- what an offered subject is paid
 pub paid_little : (N : Night) → Promised N → (offer : List ℕ) → Admissible N (λ j. get_or offer j 0) → (i r : ℕ) → i < N.header.nodes → r ≡ paid N i (get_or offer i 0) → r ≤ 1000000
 paid_little N sound offer A i r l e = rw e (paid_most N sound i (get_or offer i 0) l (d_there N sound (λ j. get_or offer j 0) A i l))
+
+-- for `search`: a loop that adds up
+pub ruleset sum_loop = (sum_none, sum_more)

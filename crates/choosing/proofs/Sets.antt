@@ -11,6 +11,7 @@ use borrow.Author.Tests.{ne_eqb}
 use Rattle.std.specs.Prelude.{if◌then◌else◌}
 use Rattle.laws.proofs.Upwards.{each_at}
 use Rattle.sets.specs.Sets.{single, size}
+use Rattle.sets.proofs.Words.{members_lt}
 use Rattle.night.specs.declared.Node.{Node}
 use Rattle.night.specs.Night.{Night, node_of}
 use Rattle.night.specs.Kinds.{uses_left, uses_right}
@@ -18,6 +19,7 @@ use Rattle.night.specs.Promised.{Promised}
 use Rattle.model.specs.Candidates.{candidate_set}
 use Rattle.model.specs.Choice.{owner_of, weight}
 use Rattle.model.specs.Dp.{subjects_of}
+use Rattle.model.proofs.May.{set_exactly}
 use Rattle.verdicts.specs.Refusals.{without_candidate}
 use Rattle.choosing.specs.Held.{HasSets}
 
@@ -66,3 +68,19 @@ module _ (N : Night) (i : ℕ) (v : Node) (read : v ≡ node_of N i) where
 
     pub right_there : used ≡ uses_right v.kind → used ≡ true → v.right < i
     right_there e u = rw read ((sound.node i l).right_lower (rw read at (sym e ∙ u)))
+
+-- for `search`
+pub ruleset children_there = (left_there, right_there)
+
+-- the subjects of a step are few, and so are those that may run any node
+pub candidates_fit : (N : Night) → Promised N → (i : ℕ) → candidate_set N i < 2 ^ 16
+candidates_fit N sound i =
+    members_lt 16 (candidate_set N i) (λ p q. omega (arith, ((set_exactly N i p sound.counts.subjects_most).0 q).0, sound.counts.subjects_most))
+
+pub weight_most : (N : Night) → Promised N → (i : ℕ) → weight N i ≤ 16
+unfolding weight
+weight_most N sound i = go (eqb (node_of N i).kind 0)
+  where
+    go : (b : Bool) → (if b then 1 else size (candidate_set N i)) ≤ 16
+    go true = omega arith
+    go false = size_most 16 (candidate_set N i) (candidates_fit N sound i)

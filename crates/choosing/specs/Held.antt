@@ -1,16 +1,36 @@
 -- What the code holds while it works out the choice.
-use Rattle.std.specs.Prelude.{ℕ, ◌<◌, ◌≤◌, ◌≡◌, Bool, true, List, length, get_or, if◌then◌else◌}
+use Rattle.std.specs.Prelude.{ℕ, ◌<◌, ◌≤◌, ◌≡◌, Bool, true, List, Option, Result, Ok, Err, length, get_or, if◌then◌else◌}
+use Rattle.laws.specs.Trials.{answers, refuses}
 use Rattle.laws.specs.Upwards.{upwards, each}
 use Rattle.sets.specs.Sets.{In, member}
 use Rattle.night.specs.declared.Header.{Header}
+use Rattle.night.specs.declared.refusals.Refusal.{Refusal}
+use Rattle.night.specs.Refusals.{number_of}
 use Rattle.night.specs.Night.{Night, node_of}
 use Rattle.night.specs.Promised.{Promised}
+use Rattle.layout.specs.Held.{night_held}
 use Rattle.model.specs.Choice.{Admissible, handed}
-use Rattle.model.specs.Dp.{subjects_of, handed_on, no_row, row_entry, row_step, cost_rows, give_child, give_both, give_down}
+use Rattle.model.specs.declared.Best.{Best}
+use Rattle.model.specs.Dp.{subjects_of, least_of, lowest_of, handed_on, no_row, row_entry, row_step, cost_rows, give_child, give_both, give_down}
+use Rattle.verdicts.specs.Refusals.{choosing_of}
+use Rattle.eligible.specs.declared.Built.{Built}
+use Rattle.eligible.specs.Answers.{BuiltFor}
+use Rattle.choosing.specs.declared.subjects.Subjects.{Subjects}
 
 -- the subjects of every node
 abbrev pub HasSets : Night → List ℕ → Type 0
 HasSets N sets = sets ≡ each 64 (subjects_of N)
+
+-- a checked file with the subjects of every node
+pub record Ready (w : Subjects) : Type 0 where
+  pub sound : Promised (night_held w.file)
+  pub has : HasSets (night_held w.file) w.sets
+
+-- what both choices begin with: 1 to 11 and 17 pass, and there are the subjects of every node and what the plan is made of; or they refuse
+abbrev pub OpenSays : List ℕ → Result (Subjects × Built) Refusal → Type 0
+OpenSays s (Ok p) =
+    (choosing_of s ≡ answers p.0.file.header) × (p.0.file.bytes.now ≡ s) × Ready p.0 × BuiltFor (night_held p.0.file) p.1
+OpenSays s (Err r) = choosing_of s ≡ refuses (number_of r.reason) r.place
 
 -- the rows of the first i nodes, and rows with no costs after them
 pub record HasRows (N : Night) (i : ℕ) (rows : List (List ℕ)) : Type 0 where
@@ -21,6 +41,10 @@ pub record HasRows (N : Night) (i : ℕ) (rows : List (List ℕ)) : Type 0 where
 abbrev pub Fits : Night → List ℕ → ℕ → ℕ → ℕ → Type 0
 Fits N row among size s = (t : ℕ) → t < 16 → In t among → handed_on N row size s t ≤ 129064000000
 
+-- what the code reads of a search: zeros where it found none
+abbrev pub Finds : Option Best → Best → Type 0
+Finds found b = (b.least ≡ least_of found) × (b.lowest ≡ lowest_of found)
+
 -- a subject of the night for each node, and 0 past the last node
 pub record Given (N : Night) (c : List ℕ) : Type 0 where
   pub long : length c ≡ 64
@@ -28,18 +52,19 @@ pub record Given (N : Night) (c : List ℕ) : Type 0 where
   pub past : (j : ℕ) → N.header.nodes ≤ j → get_or c j 0 ≡ 0
 
 -- a search among the subjects of child k, by its row: costs that fit, for subject s of the parent
-abbrev pub Searched : Night → List ℕ → List (List ℕ) → ℕ → ℕ → Type 0
-Searched N sets rows k s =
-    (k < 64) × (length rows ≡ 64) × HasSets N sets × Fits N (get_or rows k no_row) (subjects_of N k) (node_of N k).size s
+abbrev pub Searched : Night → List (List ℕ) → ℕ → ℕ → Type 0
+Searched N rows k s = (k < 64) × (length rows ≡ 64) × Fits N (get_or rows k no_row) (subjects_of N k) (node_of N k).size s
 
 -- the same of a child that may not be used
-abbrev pub SearchedIf : Night → Bool → List ℕ → List (List ℕ) → ℕ → ℕ → Type 0
-SearchedIf N used sets rows k s =
-    (length rows ≡ 64) × HasSets N sets × (used ≡ true → k < 64) × (used ≡ true → Fits N (get_or rows k no_row) (subjects_of N k) (node_of N k).size s)
+abbrev pub SearchedIf : Night → Bool → List (List ℕ) → ℕ → ℕ → Type 0
+SearchedIf N used rows k s = used ≡ true → Searched N rows k s
 
--- node i's row is filled, at subject s, from those of the nodes before it
-abbrev pub Filling : Night → Header → List ℕ → List (List ℕ) → ℕ → ℕ → Type 0
-Filling N h sets rows i s = Promised N × (i < h.nodes) × (s < h.subjects) × HasSets N sets × HasRows N i rows
+-- node i's row is filled from those of the nodes before it; and its entry for subject s
+abbrev pub Filling : Subjects → List (List ℕ) → ℕ → Type 0
+Filling w rows i = Ready w × (i < w.file.header.nodes) × HasRows (night_held w.file) i rows
+
+abbrev pub FillingAt : Subjects → List (List ℕ) → ℕ → ℕ → Type 0
+FillingAt w rows i s = Ready w × (i < w.file.header.nodes) × HasRows (night_held w.file) i rows × (s < w.file.header.subjects)
 
 -- the entry of node i's row at subject s, 0 for a subject that may not run it
 abbrev pub entry_at : Night → ℕ → ℕ → ℕ
@@ -59,17 +84,16 @@ abbrev pub handed_if : Night → List ℕ → ℕ → Bool → ℕ → ℕ
 handed_if N offer i used k = if used then handed N (λ j. get_or offer j 0) i k else 0
 
 -- all rows, and the subjects given so far
-abbrev pub Giving : Night → Header → List ℕ → List (List ℕ) → List ℕ → Type 0
-Giving N h sets rows chosen = Promised N × HasSets N sets × HasRows N h.nodes rows × Given N chosen
+abbrev pub Giving : Subjects → List (List ℕ) → List ℕ → Type 0
+Giving w rows chosen = Ready w × HasRows (night_held w.file) w.file.header.nodes rows × Given (night_held w.file) chosen
 
 -- and node i
-abbrev pub GivingAt : Night → Header → List ℕ → List (List ℕ) → ℕ → List ℕ → Type 0
-GivingAt N h sets rows i chosen = Promised N × (i < h.nodes) × HasSets N sets × HasRows N h.nodes rows × Given N chosen
+abbrev pub GivingAt : Subjects → List (List ℕ) → ℕ → List ℕ → Type 0
+GivingAt w rows i chosen = Giving w rows chosen × (i < w.file.header.nodes)
 
 -- and its child k, where it is used
-abbrev pub GivingChild : Night → Header → List ℕ → List (List ℕ) → ℕ → Bool → ℕ → List ℕ → Type 0
-GivingChild N h sets rows i used k chosen =
-    Promised N × (i < h.nodes) × (used ≡ true → k < h.nodes) × HasSets N sets × HasRows N h.nodes rows × Given N chosen
+abbrev pub GivingChild : Subjects → List (List ℕ) → ℕ → Bool → ℕ → List ℕ → Type 0
+GivingChild w rows i used k chosen = Giving w rows chosen × (i < w.file.header.nodes) × (used ≡ true → k < w.file.header.nodes)
 
 -- the subjects once a child that may not be used has its own
 abbrev pub given_child : Night → ℕ → Bool → ℕ → List ℕ → List ℕ

@@ -1,15 +1,13 @@
 // The subjects from the last node down: each child gets the lowest of its cheapest for its parent's subject, so that the list read from the
 // last node to the first is the smallest.
-ghost use Rattle.std.specs.Prelude.{◌≡◌, ◌<◌};
-ghost use Rattle.format.specs.Layout.{night_in};
-ghost use Rattle.night.specs.Promised.{Promised};
+ghost use Rattle.std.specs.Prelude.{◌≡◌};
+ghost use Rattle.layout.specs.Held.{night_held};
 ghost use Rattle.model.specs.Choice.{AllHave, steps};
 ghost use Rattle.choosing.specs.Answers.{CheapestFor};
-ghost use Rattle.choosing.specs.Held.{HasSets, Given, Giving, GivingAt, GivingChild, given_child, GivesBoth, GivesDown};
+ghost use Rattle.choosing.specs.Held.{Ready, Given, Giving, GivingAt, GivingChild, given_child, GivesBoth, GivesDown};
 
-use crate::rows;
-use layout::values;
-use night::Header;
+use crate::rows::{self, Row};
+use crate::subjects::Subjects;
 
 // A choice with its total.
 #[derive(Clone, Copy)]
@@ -19,97 +17,50 @@ pub(crate) struct Picked {
 }
 
 // Child k gets its subject from its parent i's, where node i has this child.
-fn give_child(
-    file: &[u8],
-    h: Header,
-    sets: [u16; 64],
-    rows: &[[u64; 16]],
-    chosen: [u8; 64],
-    i: usize,
-    used: bool,
-    k: u8,
-) -> [u8; 64]
-    requires { GivingChild (night_in file.now h) h sets rows.now i used k chosen }
-    ensures { (result ≡ given_child (night_in file.now h) i used k chosen) × Given (night_in file.now h) result }
+#[tactic(auto, unfolding(format::specs::Layout::night_in))]
+fn give_child(who: &Subjects<'_>, rows: &[Row], chosen: &mut [u8; 64], i: usize, used: bool, k: u8)
+    requires { GivingChild who.now rows.now i used k chosen.old }
+    ensures { (chosen.new ≡ given_child (night_held who.now.file) i used k chosen.old) × Given (night_held who.now.file) chosen.new }
 {
     if used {
-        let best = rows::best_child(file, h, sets, rows, k as usize, chosen[i]);
-        let mut next = chosen;
-        next[k as usize] = best.lowest;
-        return next;
+        let best = rows::best_child(who, rows, k as usize, chosen[i]);
+        chosen[k as usize] = best.lowest;
     }
-    chosen
 }
 
 // Both children of node i.
-fn give_both(
-    file: &[u8],
-    h: Header,
-    sets: [u16; 64],
-    rows: &[[u64; 16]],
-    chosen: [u8; 64],
-    i: usize,
-) -> [u8; 64]
-    requires { GivingAt (night_in file.now h) h sets rows.now i chosen }
-    ensures { GivesBoth (night_in file.now h) i chosen result }
+#[tactic(auto, using(crate::proofs::Sets::children_there), unfolding(model::specs::Dp::give_left, model::specs::Dp::give_both, format::specs::Layout::night_in))]
+fn give_both(who: &Subjects<'_>, rows: &[Row], chosen: &mut [u8; 64], i: usize)
+    requires { GivingAt who.now rows.now i chosen.old }
+    ensures { GivesBoth (night_held who.now.file) i chosen.old chosen.new }
 {
-    let v = values::node(file, h, i);
-    let left = give_child(
-        file,
-        h,
-        sets,
-        rows,
-        chosen,
-        i,
-        kinds::uses_left(v.kind),
-        v.left,
-    );
-    give_child(
-        file,
-        h,
-        sets,
-        rows,
-        left,
-        i,
-        kinds::uses_right(v.kind),
-        v.right,
-    )
+    let v = who.file.node(i);
+    give_child(who, rows, chosen, i, kinds::uses_left(v.kind), v.left);
+    give_child(who, rows, chosen, i, kinds::uses_right(v.kind), v.right);
 }
 
 // The children of all nodes, from the last node down.
-fn give_down(
-    file: &[u8],
-    h: Header,
-    sets: [u16; 64],
-    rows: &[[u64; 16]],
-    start: [u8; 64],
-) -> [u8; 64]
-    requires { Giving (night_in file.now h) h sets rows.now start }
-    ensures { GivesDown (night_in file.now h) h start result }
+#[tactic(auto, using(crate::proofs::Held::down_turn))]
+fn give_down(who: &Subjects<'_>, rows: &[Row], chosen: &mut [u8; 64])
+    requires { Giving who.now rows.now chosen.old }
+    ensures { GivesDown (night_held who.now.file) who.now.file.header chosen.old chosen.new }
 {
-    let n = h.nodes as usize;
-    let mut chosen = start;
-    let mut left = n;
-    while 0 < left {
-        let i = left - 1;
-        let next = give_both(file, h, sets, rows, chosen, i);
-        chosen = next;
-        left -= 1;
+    for i in (0..who.file.header.nodes as usize).rev() {
+        give_both(who, rows, chosen, i);
     }
-    chosen
 }
 
 // The cheapest choice: the subjects of every node from the rows of least costs, and its total.
-pub(crate) fn least(file: &[u8], h: Header, sets: [u16; 64]) -> Picked
-    requires { Promised (night_in file.now h) × AllHave (night_in file.now h) × HasSets (night_in file.now h) sets }
-    ensures { CheapestFor (night_in file.now h) result.subjects result.total (steps (night_in file.now h)) }
+#[tactic(auto, unfolding(format::specs::Layout::night_in))]
+pub(crate) fn least(who: &Subjects<'_>) -> Picked
+    requires { Ready who.now × AllHave (night_held who.now.file) }
+    ensures { CheapestFor (night_held who.now.file) result.subjects result.total (steps (night_held who.now.file)) }
 {
-    let known = rows::cost_rows(file, h, sets);
-    let top = rows::best_last(file, h, sets, &known);
-    let last = h.nodes as usize - 1;
-    let mut start = [0u8; 64];
-    start[last] = top.lowest;
-    let subjects = give_down(file, h, sets, &known, start);
+    let known = rows::cost_rows(who);
+    let top = rows::best_last(who, &known);
+    let mut subjects = [0; 64];
+    subjects[who.file.header.nodes as usize - 1] = top.lowest;
+    give_down(who, &known, &mut subjects);
     Picked {
         subjects,
         total: top.least,

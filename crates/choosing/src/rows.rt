@@ -1,164 +1,118 @@
 // The least costs of every node, upwards: a row for each node, and in it what the node costs with all under it where a subject does it.
-ghost use Rattle.std.specs.Prelude.{◌≡◌, true, ◌+◌, ◌*◌, ◌<◌, ◌≤◌, if◌then◌else◌};
+ghost use Rattle.std.specs.Prelude.{◌≡◌, ◌≤◌, if◌then◌else◌};
 ghost use Rattle.laws.specs.Upwards.{upwards};
-ghost use Rattle.format.specs.Layout.{night_in};
-ghost use Rattle.night.specs.Night.{link_price};
-ghost use Rattle.night.specs.Promised.{Promised};
-ghost use Rattle.sets.specs.Sets.{In, member};
-ghost use Rattle.model.specs.Dp.{better, best_of, best_child, row_entry, row_step, cost_rows, best_last};
-ghost use Rattle.choosing.specs.Held.{HasSets, HasRows, Fits, Searched, SearchedIf, Filling, entry_at};
+ghost use Rattle.layout.specs.Held.{night_held};
+ghost use Rattle.model.specs.Dp.{least_of, better, best_of, best_child, row_entry, row_step, cost_rows, best_last};
+ghost use Rattle.choosing.specs.Held.{Ready, HasRows, Fits, Finds, Searched, SearchedIf, Filling, FillingAt};
 
 use crate::costs;
-use layout::values;
+use crate::subjects::Subjects;
+use layout::PlanFile;
 use model::Best;
-use night::Header;
 use sets::subjects;
 
+// A row: what the node costs with all under it, for each subject that may do it.
+pub(crate) type Row = [u64; 16];
+
 // One more, subject t at this cost: taken where there is none so far, or where it costs less.
-fn better(best: Best, cost: u64, t: u8) -> Best
+#[tactic(auto, unfolding(model::specs::Dp::better))]
+fn better(best: Option<Best>, cost: u64, t: u8) -> Option<Best>
     ensures { result ≡ better best cost t }
 {
-    if best.found {
-        if cost < best.least {
-            return Best {
-                found: true,
-                least: cost,
-                lowest: t,
-            };
+    match best {
+        Some(b) if b.least <= cost => best,
+        _ => Some(Best {
+            least: cost,
+            lowest: t,
+        }),
+    }
+}
+
+// The cheapest of the subjects in the set, by the row and with this size handed to subject s: the lowest of those, or zeros where the set is empty.
+#[tactic(auto, using(crate::proofs::Held::best_loop), unfolding(model::specs::Dp::handed_on))]
+fn best_of(file: &PlanFile<'_>, row: &Row, among: u16, size: u32, s: u8) -> Best
+    requires { Fits (night_held file.now) row.now among size s }
+    ensures { Finds (best_of (night_held file.now) row.now among size s 16) result }
+{
+    let mut best = None;
+    for t in 0..16 {
+        if subjects::has(among, t) {
+            let cost = row[t as usize] + costs::handed(file, size, t, s);
+            best = better(best, cost, t);
         }
-        return best;
     }
-    Best {
-        found: true,
-        least: cost,
-        lowest: t,
-    }
-}
-
-// The best so far and subject t, where it is in the set: what its table costs, and of this size handed to subject s.
-fn tried(file: &[u8], h: Header, best: Best, cost: u64, among: u16, size: u32, s: u8, t: u8) -> Best
-    requires { In t among → cost + size * link_price (night_in file.now h) t s ≤ 129064000000 }
-    ensures { result ≡ (if member among t then better best (cost + size * link_price (night_in file.now h) t s) t else best) }
-{
-    if subjects::has(among, t) {
-        let link = costs::handed(file, h, size, t, s);
-        return better(best, cost + link, t);
-    }
-    best
-}
-
-// The cheapest of the subjects in the set, the lowest of those.
-fn best_of(file: &[u8], h: Header, row: [u64; 16], among: u16, size: u32, s: u8) -> Best
-    requires { Fits (night_in file.now h) row among size s }
-    ensures { result ≡ best_of (night_in file.now h) row among size s 16 }
-{
-    let mut best = Best {
-        found: false,
+    best.unwrap_or(Best {
         least: 0,
         lowest: 0,
-    };
-    let mut t: usize = 0;
-    while t < 16 {
-        let next = tried(file, h, best, row[t], among, size, s, t as u8);
-        best = next;
-        t += 1;
-    }
-    best
+    })
 }
 
 // The cheapest way to have child k, whose row is known, done and handed to subject s.
-pub(crate) fn best_child(
-    file: &[u8],
-    h: Header,
-    sets: [u16; 64],
-    rows: &[[u64; 16]],
-    k: usize,
-    s: u8,
-) -> Best
-    requires { Searched (night_in file.now h) sets rows.now k s }
-    ensures { result ≡ best_child (night_in file.now h) rows.now k s }
+pub(crate) fn best_child(who: &Subjects<'_>, rows: &[Row], k: usize, s: u8) -> Best
+    requires { Ready who.now × Searched (night_held who.now.file) rows.now k s }
+    ensures { Finds (best_child (night_held who.now.file) rows.now k s) result }
 {
-    let v = values::node(file, h, k);
-    best_of(file, h, rows[k], sets[k], v.size, s)
+    best_of(&who.file, &rows[k], who.sets[k], who.file.node(k).size, s)
 }
 
 // The least of these where the parent has this child, else nothing.
-fn child_least(
-    file: &[u8],
-    h: Header,
-    sets: [u16; 64],
-    rows: &[[u64; 16]],
-    used: bool,
-    k: u8,
-    s: u8,
-) -> u64
-    requires { SearchedIf (night_in file.now h) used sets rows.now k s }
-    ensures { (result ≡ (if used then (best_child (night_in file.now h) rows.now k s).least else 0)) × (result ≤ 129064000000) }
+#[tactic(auto, using(crate::proofs::Held::child_most))]
+fn child_least(who: &Subjects<'_>, rows: &[Row], used: bool, k: u8, s: u8) -> u64
+    requires { Ready who.now × SearchedIf (night_held who.now.file) used rows.now k s }
+    ensures { (result ≡ (if used then least_of (best_child (night_held who.now.file) rows.now k s) else 0)) × (result ≤ 129064000000) }
 {
     if used {
-        let best = best_child(file, h, sets, rows, k as usize, s);
-        return best.least;
+        best_child(who, rows, k as usize, s).least
+    } else {
+        0
     }
-    0
 }
 
 // What node i costs with all under it where subject s does it, the least.
-fn row_entry(file: &[u8], h: Header, sets: [u16; 64], rows: &[[u64; 16]], i: usize, s: u8) -> u64
-    requires { Filling (night_in file.now h) h sets rows.now i s }
-    ensures { result ≡ row_entry (night_in file.now h) (upwards (row_step (night_in file.now h)) i) i s }
+fn row_entry(who: &Subjects<'_>, rows: &[Row], i: usize, s: u8) -> u64
+    requires { FillingAt who.now rows.now i s }
+    ensures { result ≡ row_entry (night_held who.now.file) (upwards (row_step (night_held who.now.file)) i) i s }
 {
-    let v = values::node(file, h, i);
-    let left = child_least(file, h, sets, rows, kinds::uses_left(v.kind), v.left, s);
-    let right = child_least(file, h, sets, rows, kinds::uses_right(v.kind), v.right, s);
-    costs::paid(file, h, i, s) + left + right
+    let v = who.file.node(i);
+    costs::paid(&who.file, i, s)
+        + child_least(who, rows, kinds::uses_left(v.kind), v.left, s)
+        + child_least(who, rows, kinds::uses_right(v.kind), v.right, s)
 }
 
-// The entry of subject s in node i's row: nothing where it may not do it.
-fn entry(file: &[u8], h: Header, sets: [u16; 64], rows: &[[u64; 16]], i: usize, s: u8) -> u64
-    requires { Promised (night_in file.now h) × (i < h.nodes) × HasSets (night_in file.now h) sets × HasRows (night_in file.now h) i rows.now }
-    ensures { result ≡ entry_at (night_in file.now h) i s }
+// Node i's row from those of the nodes before it: nothing where a subject may not do it.
+#[tactic(auto, unfolding(format::specs::Layout::night_in))]
+fn row(who: &Subjects<'_>, rows: &[Row], i: usize) -> Row
+    requires { Filling who.now rows.now i }
+    ensures { result ≡ row_step (night_held who.now.file) (upwards (row_step (night_held who.now.file)) i) i }
 {
-    if subjects::has(sets[i], s) {
-        return row_entry(file, h, sets, rows, i, s);
-    }
-    0
-}
-
-// Node i's row from those of the nodes before it.
-fn row(file: &[u8], h: Header, sets: [u16; 64], rows: &[[u64; 16]], i: usize) -> [u64; 16]
-    requires { Promised (night_in file.now h) × (i < h.nodes) × HasSets (night_in file.now h) sets × HasRows (night_in file.now h) i rows.now }
-    ensures { result ≡ row_step (night_in file.now h) (upwards (row_step (night_in file.now h)) i) i }
-{
-    let mut made = [0u64; 16];
-    let mut s: usize = 0;
-    while s < 16 {
-        made[s] = entry(file, h, sets, rows, i, s as u8);
-        s += 1;
+    let mut made = [0; 16];
+    for s in 0..16 {
+        if subjects::has(who.sets[i], s) {
+            made[s as usize] = row_entry(who, rows, i, s);
+        }
     }
     made
 }
 
 // The rows of all nodes, worked out upwards.
-pub(crate) fn cost_rows(file: &[u8], h: Header, sets: [u16; 64]) -> [[u64; 16]; 64]
-    requires { Promised (night_in file.now h) × HasSets (night_in file.now h) sets }
-    ensures { HasRows (night_in file.now h) h.nodes result }
+#[tactic(auto, unfolding(format::specs::Layout::night_in))]
+pub(crate) fn cost_rows(who: &Subjects<'_>) -> [Row; 64]
+    requires { Ready who.now }
+    ensures { HasRows (night_held who.now.file) who.now.file.header.nodes result }
 {
-    let n = h.nodes as usize;
-    let mut rows = [[0u64; 16]; 64];
-    let mut i: usize = 0;
-    while i < n {
-        let next = row(file, h, sets, &rows, i);
-        rows[i] = next;
-        i += 1;
+    let mut rows = [[0; 16]; 64];
+    for i in 0..who.file.header.nodes as usize {
+        rows[i] = row(who, &rows, i);
     }
     rows
 }
 
 // The cheapest of the last node: nothing is handed on.
-pub(crate) fn best_last(file: &[u8], h: Header, sets: [u16; 64], rows: &[[u64; 16]]) -> Best
-    requires { Promised (night_in file.now h) × HasSets (night_in file.now h) sets × HasRows (night_in file.now h) h.nodes rows.now }
-    ensures { result ≡ best_last (night_in file.now h) (cost_rows (night_in file.now h)) }
+#[tactic(auto, unfolding(format::specs::Layout::night_in))]
+pub(crate) fn best_last(who: &Subjects<'_>, rows: &[Row]) -> Best
+    requires { Ready who.now × HasRows (night_held who.now.file) who.now.file.header.nodes rows.now }
+    ensures { Finds (best_last (night_held who.now.file) (cost_rows (night_held who.now.file))) result }
 {
-    let last = h.nodes as usize - 1;
-    best_of(file, h, rows[last], sets[last], 0, 0)
+    let last = who.file.header.nodes as usize - 1;
+    best_of(&who.file, &rows[last], who.sets[last], 0, 0)
 }

@@ -1,36 +1,34 @@
-// The steps that nobody may run.
-ghost use Rattle.std.specs.Prelude.{◌≡◌, false, ◌≤◌, eqb, if◌then◌else◌};
-ghost use Rattle.laws.specs.First.{first};
-ghost use Rattle.format.specs.Layout.{night_in};
-ghost use Rattle.verdicts.specs.Refusals.{without_candidate};
-ghost use Rattle.choosing.specs.Held.{HasSets};
+// Who may be the subject of each node, and the steps that nobody may run.
+ghost use Rattle.std.specs.Prelude.{◌≡◌};
+ghost use Rattle.laws.specs.Trials.{verdict};
+ghost use Rattle.layout.specs.Held.{night_held};
+ghost use Rattle.night.specs.Refusals.{said};
+ghost use Rattle.verdicts.specs.Refusals.{candidate_trials};
+ghost use Rattle.choosing.specs.Held.{Ready};
 
-use layout::values;
-use night::Header;
+use layout::PlanFile;
+use night::refusals::{Reason, Refusal};
 
-// Whether a node of this kind with these subjects is a step without candidate.
-fn is_without(kind: u8, among: u16) -> bool
-    ensures { result ≡ (if eqb kind 0 then false else eqb among 0) }
-{
-    if kind == night::LEAF {
-        return false;
-    }
-    among == 0
+// A plan file with who may be the subject of each of its nodes.
+#[derive(Clone, Copy)]
+pub(crate) struct Subjects<'f> {
+    pub file: PlanFile<'f>,
+    pub sets: [u16; 64],
 }
 
-// The lowest step without candidate, or the count of nodes where there is none.
-pub(crate) fn lowest_without(file: &[u8], h: Header, sets: [u16; 64]) -> u8
-    requires { (h.nodes ≤ 64) × HasSets (night_in file.now h) sets }
-    ensures { result ≡ first (without_candidate (night_in file.now h)) h.nodes }
+// 12: the lowest step without candidate is refused.
+#[tactic(auto, using(crate::proofs::Answered::candidates_loop), unfolding(format::specs::Layout::night_in))]
+pub(crate) fn all_have(who: &Subjects<'_>) -> Result<(), Refusal>
+    requires { Ready who.now }
+    ensures { said result ≡ verdict (candidate_trials (night_held who.now.file)) tt }
 {
-    let n = h.nodes;
-    let mut i: u8 = 0;
-    while i < n {
-        let v = values::node(file, h, i as usize);
-        if is_without(v.kind, sets[i as usize]) {
-            return i;
+    for i in 0..who.file.header.nodes as usize {
+        if who.file.node(i).kind != night::LEAF && who.sets[i] == 0 {
+            return Err(Refusal {
+                reason: Reason::NoCandidate,
+                place: i as u32,
+            });
         }
-        i += 1;
     }
-    n
+    Ok(())
 }

@@ -1,59 +1,45 @@
-// What both choices begin with: reading's trials, and then 17, the leaves that the user may not have.
+// What both choices begin with after reading's trials: 17, the leaves that the user may not have.
 ghost use Rattle.std.specs.Prelude.{◌≡◌};
-ghost use Rattle.laws.specs.First.{first};
-ghost use Rattle.format.specs.Layout.{night_in};
-ghost use Rattle.night.specs.Night.{node_of};
-ghost use Rattle.reading.specs.Answers.{said_of};
-ghost use Rattle.verdicts.specs.Refusals.{choosing_of};
-ghost use Rattle.choosing.specs.Kept.{kept_back, ReadWith};
+ghost use Rattle.laws.specs.Trials.{verdict};
+ghost use Rattle.laws.specs.Upwards.{each};
+ghost use Rattle.layout.specs.Held.{night_held};
+ghost use Rattle.night.specs.Promised.{Promised};
+ghost use Rattle.night.specs.Refusals.{said};
+ghost use Rattle.night.specs.Views.{clear_of};
+ghost use Rattle.verdicts.specs.Refusals.{user_trials};
+ghost use Rattle.choosing.specs.Kept.{kept_back};
 
-use layout::values;
-use night::{Header, Node, versions};
-use reading::Checked;
+use layout::PlanFile;
+use night::refusals::{Reason, Refusal};
+use night::{Node, versions};
 use sets::attributes;
 
 // Whether a node is a leaf that holds more than `clear`. A leaf's table has no other part, so condition 1 alone can fail.
+#[tactic(auto, unfolding(crate::specs::Kept::kept_back))]
 fn kept_back(v: Node, clear: u64) -> bool
     ensures { result ≡ kept_back v clear }
 {
-    if v.kind == night::LEAF {
-        return !attributes::within(v.set, clear);
-    }
-    false
+    v.kind == night::LEAF && !attributes::within(v.set, clear)
 }
 
-// The lowest leaf that holds more than `clear`, or the count of nodes where there is none.
-fn lowest_kept(file: &[u8], h: Header, clear: u64) -> u8
-    ensures { result ≡ first (λ i. kept_back (node_of (night_in file.now h) i) clear) h.nodes }
+// 17: in a version with a user, that user must see in clear all that the leaves hold. `clear` has what each subject sees.
+#[tactic(auto, using(crate::proofs::Users::user_loop), unfolding(format::specs::Layout::night_in))]
+pub(crate) fn allowed(file: &PlanFile<'_>, clear: &[u64; 16]) -> Result<(), Refusal>
+    requires { Promised (night_held file.now) × (clear.now ≡ each 16 (clear_of (night_held file.now))) }
+    ensures { said result ≡ verdict (user_trials (night_held file.now)) tt }
 {
-    let n = h.nodes;
-    let mut i: u8 = 0;
-    while i < n {
-        if kept_back(values::node(file, h, i as usize), clear) {
-            return i;
-        }
-        i += 1;
-    }
-    n
-}
-
-// The verdict that both choices begin with: 1 to 11, and in a version with a user 17, since the user must see in clear all that the leaves hold.
-pub(crate) fn checked(file: &[u8], answer: Checked, clear: [u64; 16]) -> Checked
-    requires { ReadWith file.now clear answer }
-    ensures { said_of result ≡ choosing_of file.now }
-{
-    let Checked::Accepted(h) = answer else {
-        return answer;
-    };
+    let h = file.header;
     if !versions::delivers(h.version) {
-        return answer;
+        return Ok(());
     }
-    let kept = lowest_kept(file, h, clear[h.user as usize]);
-    if kept < h.nodes {
-        return Checked::Refused {
-            number: 17,
-            place: kept as u32,
-        };
+    let seen = clear[h.user as usize];
+    for i in 0..h.nodes as usize {
+        if kept_back(file.node(i), seen) {
+            return Err(Refusal {
+                reason: Reason::KeptFromUser,
+                place: i as u32,
+            });
+        }
     }
-    answer
+    Ok(())
 }

@@ -5,9 +5,11 @@ use mathlib.Core.List.{List, ◌++◌}
 use mathlib.Core.Logic.{◌↔◌}
 use lib.Dec.{lit<}
 use lib.ListN.{get_or, drop}
+use Rattle.std.specs.Prelude.{Result, Ok, Err}
 use Rattle.laws.specs.Trials.{verdict}
 use Rattle.laws.specs.Upwards.{each}
 use Rattle.laws.proofs.Trials.{append_alike, answers_alike}
+use Rattle.night.specs.declared.refusals.Refusal.{Refusal}
 use Rattle.night.specs.Versions.{delivers, has_pairs, has_days}
 use Rattle.night.specs.Night.{Night, relation_of, node_of, pair_of}
 use Rattle.night.specs.Kinds.{reads, read_together, pairs_read, its_pair}
@@ -34,9 +36,6 @@ use Rattle.verdicts.proofs.Days.{always_tried}
 use Rattle.writes.specs.Days.{Headed, as_four}
 use Rattle.writes.proofs.Days.{in_four}
 use Rattle.planning.specs.declared.CheapestPlan.{CheapestPlan}
-use Rattle.planning.specs.declared.CheapestPlan.TheVariants.{Cheapest, Refused}
-use Rattle.planning.specs.declared.OfferedPlan.{OfferedPlan}
-use Rattle.planning.specs.declared.OfferedPlan.TheVariants.{Offered, Refused as NoOffer}
 use Rattle.planning.specs.Answers.{candidates_of, why_of, Filled, CheapestFilled, CheapestSays, OfferedSays}
 use Rattle.demands.specs.Days.{CandidatesOnDay, Demand3OnDay, SaidAlike, AlwaysSaid, ThreeAndFour, WrittenInFour}
 use Rattle.demands.proofs.Demand3.{run_keys}
@@ -103,19 +102,19 @@ module _ (N T : Night) (f : Fills N T) (before after : Rooms) where
 -- two files of which the trials say the same, and whose nights hand all of it on
 module _ (s t : List ℕ) (f : Fills (night_of s) (night_of t)) where
   cheapest_says : ((rooms : Rooms) → verdict (cheapest_plan_trials s rooms) (tt {0}) ≡ verdict (cheapest_plan_trials t rooms) tt)
-      → (before after : Rooms) (said : CheapestPlan) → CheapestSays s before after said → CheapestSays t before after said
-  cheapest_says same before after (Cheapest most many) w = (sym (same before) ∙ w.0, cheapest_too (night_of s) (night_of t) f before after most many w.1)
-  cheapest_says same before after (Refused n p) w = (sym (same before) ∙ w.0, w.1)
+      → (before after : Rooms) (said : Result CheapestPlan Refusal) → CheapestSays s before after said → CheapestSays t before after said
+  cheapest_says same before after (Ok c) w = (sym (same before) ∙ w.0, cheapest_too (night_of s) (night_of t) f before after c.total c.steps w.1)
+  cheapest_says same before after (Err r) w = (sym (same before) ∙ w.0, w.1)
 
   offered_says : (offer : List ℕ) → ((rooms : Rooms) → verdict (offered_plan_trials s offer rooms) (tt {0}) ≡ verdict (offered_plan_trials t offer rooms) tt)
-      → (before after : Rooms) (said : OfferedPlan) → OfferedSays s offer before after said → OfferedSays t offer before after said
-  offered_says offer same before after (Offered most) w = (
+      → (before after : Rooms) (said : Result ℕ Refusal) → OfferedSays s offer before after said → OfferedSays t offer before after said
+  offered_says offer same before after (Ok most) w = (
     sym (same before) ∙ w.0,
     w.1 ∙ f.costs (λ i. get_or offer i 0),
     filled_too (night_of s) (night_of t) f before after (λ i. get_or offer i 0) w.2,
     w.3,
   )
-  offered_says offer same before after (NoOffer n p) w = (sym (same before) ∙ w.0, w.1)
+  offered_says offer same before after (Err r) w = (sym (same before) ∙ w.0, w.1)
 
 module _ (s t : List ℕ) (version day : ℕ) (its : Headed s) (that : Headed t) (but : ButDays (night_of s) version day) (e : night_of t ≡ in_version (night_of s) version day) where
   abbrev N : Night

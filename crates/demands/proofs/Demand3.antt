@@ -5,11 +5,13 @@ use mathlib.Core.Bool.{false}
 use mathlib.Core.List.{List, [], ◌∷◌}
 use mathlib.Core.Logic.{◌↔◌}
 use lib.ListN.{get_or, drop, get_or-append}
+use Rattle.std.specs.Prelude.{Ok}
 use Rattle.laws.specs.Trials.{trial, answers, Passes}
 use Rattle.laws.specs.Upwards.{each}
 use Rattle.laws.proofs.Trials.{passed, passes_accepts, passes_append, passes_row, accepted_alike}
 use Rattle.laws.proofs.Upwards.{each_at, each_length}
 use Rattle.night.specs.declared.Header.{Header}
+use Rattle.night.specs.Refusals.{said}
 use Rattle.night.specs.Night.{Night}
 use Rattle.night.specs.Promised.{Promised}
 use Rattle.format.specs.Layout.{header_of, night_of}
@@ -29,8 +31,7 @@ use Rattle.model.proofs.SamePlan.{Alike, key_same, holders_same, clean_same}
 use Rattle.model.proofs.KeysAgree.{keys_agree}
 use Rattle.model.proofs.Demand.{runs_exactly, built_runs}
 use Rattle.choosing.proofs.Answered.{offer_admissible}
-use Rattle.planning.specs.declared.CandidateSet.TheVariants.{Among}
-use Rattle.planning.specs.Answers.{candidates_said, candidates_of, Filled}
+use Rattle.planning.specs.Answers.{candidates_of, Filled}
 use Rattle.planning.proofs.Answered.{candidates_once}
 use Rattle.demands.specs.Demand3.{EachCandidate, Demand3, ByAnswers, plan_in, RunsWith, CheapestRuns, OfferedRuns}
 
@@ -62,10 +63,10 @@ demand3 s h e c assigned =
 
 -- with the sets that are answered
 pub by_answers : ByAnswers
-by_answers s h e c assigned answer said =
+by_answers s h e c assigned answer told =
     let exactly = (demand3 s h e c assigned).0 in (
-      λ run i set l step q. exactly.0 run i set l step (sym (said i l) ∙ ap candidates_said q),
-      λ from. exactly.1 (λ i set l step q. from i set l step (candidates_once (answer i) (Among set) (said i l ∙ q))),
+      λ run i set l step q. exactly.0 run i set l step (sym (told i l) ∙ ap said q),
+      λ from. exactly.1 (λ i set l step q. from i set l step (candidates_once (answer i) (Ok set) (told i l ∙ q))),
     )
 
 -- what stands in the rooms
@@ -114,15 +115,15 @@ offer_passed N offer h k l = (passes_row (λ i. trial (offer_bad N offer i) 14 i
 
 pub cheapest_runs : CheapestRuns
 unfolding cheapest_plan_trials cheapest_trials
-cheapest_runs s before after total steps said =
-    let passes = (passes_append (choice_trials s) _ (passes_append (cheapest_trials s) _ (passed (cheapest_plan_trials s before) tt tt said.0).0).0).0 in
+cheapest_runs s before after answer says =
+    let passes = (passes_append (choice_trials s) _ (passes_append (cheapest_trials s) _ (passed (cheapest_plan_trials s before) tt tt says.0).0).0).0 in
     let n = (night_of s).header.nodes in
-    let c = said.1.subject in
-    rooms_run s (sound_of s passes) (may_of s passes) c said.1.least.admissible after.choice
-    (λ i l. sym (rw said.1.choice (get_or-append (each n c) (drop n before.choice) 0 i (rw (each_length c n) l) ∙ each_at c 0 i n l))) before after said.1.filled
+    let c = says.1.subject in
+    rooms_run s (sound_of s passes) (may_of s passes) c says.1.least.admissible after.choice
+    (λ i l. sym (rw says.1.choice (get_or-append (each n c) (drop n before.choice) 0 i (rw (each_length c n) l) ∙ each_at c 0 i n l))) before after says.1.filled
 
 pub offered_runs : OfferedRuns
 unfolding offered_plan_trials offered_trials
-offered_runs s offer before after total said =
-    let passes = passes_append (choice_trials s) _ (passes_append (offered_trials s offer) _ (passed (offered_plan_trials s offer before) tt tt said.0).0).0 in
-    rooms_run s (sound_of s passes.0) (may_of s passes.0) (λ i. get_or offer i 0) (offer_admissible (night_of s) offer (offer_passed (night_of s) offer passes.1)) offer (λ i l. refl) before after said.2
+offered_runs s offer before after total says =
+    let passes = passes_append (choice_trials s) _ (passes_append (offered_trials s offer) _ (passed (offered_plan_trials s offer before) tt tt says.0).0).0 in
+    rooms_run s (sound_of s passes.0) (may_of s passes.0) (λ i. get_or offer i 0) (offer_admissible (night_of s) offer (offer_passed (night_of s) offer passes.1)) offer (λ i l. refl) before after says.2

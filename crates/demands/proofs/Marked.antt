@@ -25,7 +25,7 @@ use Rattle.model.specs.Ties.{gathered, tie, merged}
 use Rattle.model.specs.Tables.{least_view, tests, ties, joined, result, leaf_table, step_table, table_step, tables, table_of}
 use Rattle.model.specs.Candidates.{clear_offends, sealed_offends, tied_offends, may, may_take, is_candidate, candidate_set}
 use Rattle.model.specs.Choice.{Choice, AllHave, Least, total, weight, steps_at, steps}
-use Rattle.model.specs.Dp.{subjects_of, better, handed_on, best_of, best_child, row_entry, row_step, cost_rows, best_last}
+use Rattle.model.specs.Dp.{subjects_of, least_of, better, handed_on, best_of, best_child, row_entry, row_step, cost_rows, best_last}
 use Rattle.verdicts.specs.Refusals.{without_candidate}
 use Rattle.model.proofs.TableLaws.{union_none, function_ties}
 use Rattle.model.proofs.Dp.{dp_least, least_there, chosen_total}
@@ -46,7 +46,7 @@ computed :
     × (candidate_set sample_night 1 ∷ candidate_set sample_night 3 ∷ candidate_set sample_night 4 ∷ candidate_set sample_night 5 ∷ [] ≡ 63 ∷ 61 ∷ 61 ∷ 20 ∷ [])
     × (steps sample_night ≡ 76)
     × (first (without_candidate sample_night) 6 ≡ 6)
-    × ((best_last sample_night (cost_rows sample_night)).least ≡ 14)
+    × (least_of (best_last sample_night (cost_rows sample_night)) ≡ 14)
     × (conditions 4 ≡ true ∷ true ∷ true ∷ [])
     × (conditions 0 ≡ false ∷ true ∷ true ∷ [])
     × (conditions 2 ≡ true ∷ false ∷ true ∷ [])

@@ -3,4 +3,4 @@ use Rattle.verdicts.proofs.User.{never_without}
 use Rattle.demands.specs.User.{NeverTwelve}
 
 pub never_twelve : NeverTwelve
-never_twelve s before after place d said = never_without s before place d said.0
+never_twelve s before after place d says = never_without s before place d says.0

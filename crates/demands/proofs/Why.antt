@@ -6,6 +6,7 @@ use mathlib.Core.List.{List}
 use mathlib.Core.Logic.{◌↔◌}
 use lib.Dec.{ltb}
 use borrow.Author.Tests.{ne_eqb, lt-ltb, ltb-true, ltb-false}
+use Rattle.std.specs.Prelude.{None}
 use Rattle.laws.specs.Choose.{any_of}
 use Rattle.laws.specs.Trials.{answers, refuses}
 use Rattle.laws.proofs.Trials.{never, passed, passes_accepts, passes_append, refused_then, accepted_alike}
@@ -15,10 +16,8 @@ use Rattle.night.specs.Night.{Night, node_of}
 use Rattle.night.specs.Views.{clear_of, sealed_of}
 use Rattle.format.specs.Layout.{header_of, night_in, night_of}
 use Rattle.format.proofs.Sections.{node_past}
-use Rattle.model.specs.declared.Standing.{Standing}
-use Rattle.model.specs.declared.Standing.TheVariants.{Candidate, Out}
 use Rattle.model.specs.Candidates.{candidate_set}
-use Rattle.model.specs.Reasons.{of_result, looked_at, standing, FirstOut, Named}
+use Rattle.model.specs.Reasons.{of_result, Standing, out, looked_at, standing, FirstOut, Named}
 use Rattle.model.proofs.Reasons.{candidate_standing}
 use Rattle.model.proofs.Offending.{out_exactly}
 use Rattle.model.proofs.ResultTied.{result_tied}
@@ -80,15 +79,15 @@ module _ (s : List ℕ) where
 
   -- the theorem over a night, for what is asked so
   exactly : (i p : ℕ) → Asked s i p → (k c set : ℕ)
-      → (stands i p ≡ Out k c set) ↔ (FirstOut N i (clear_of N p) (sealed_of N p) k c × Named (looked_at N i k) (clear_of N p) (sealed_of N p) c set)
+      → (stands i p ≡ out k c set) ↔ (FirstOut N i (clear_of N p) (sealed_of N p) k c × Named (looked_at N i k) (clear_of N p) (sealed_of N p) c set)
   exactly i p a = out_exactly N (accepted_promises s a.accepted.0 a.accepted.1) i a.node a.step (clear_of N p) (sealed_of N p)
 
-  out_told : (i p k c set : ℕ) → OutBy s i p k c set → why_of s i p ≡ answers (Out k c set)
+  out_told : (i p k c set : ℕ) → OutBy s i p k c set → why_of s i p ≡ answers (out k c set)
   out_told i p k c set w = told i p w.asked ∙ ap answers ((exactly i p w.asked k c set).1 (w.first, w.named))
 
-  out-by : (i p k c set : ℕ) → why_of s i p ≡ answers (Out k c set) → OutBy s i p k c set
+  out-by : (i p k c set : ℕ) → why_of s i p ≡ answers (out k c set) → OutBy s i p k c set
   out-by i p k c set e =
-      let w = answered i p (Out k c set) e in
+      let w = answered i p (out k c set) e in
       let u = (exactly i p w.0 k c set).0 w.1 in
       record { asked = w.0; first = u.0; named = u.1 }
 
@@ -111,7 +110,7 @@ why_out =
       out = λ s i p k c set. (out-by s i p k c set, out_told s i p k c set);
       candidate = λ s i p set e. (
         λ q.
-            let w = answered s i p Candidate q in
+            let w = answered s i p None q in
             (candidates_exactly s i set e p).1 (w.0.subject, (candidate_standing (night_of s) i _ _ w.0.step).0 w.1),
         λ h.
             let a = member_asked s i p set e h in

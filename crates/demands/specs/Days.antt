@@ -1,8 +1,9 @@
 -- What is said of an accepted file on any day, and of a file of version 3 once it is written in version 4. What the entries say, 7 and 17 are of the night's day.
-use Rattle.std.specs.Prelude.{ℕ, ◌<◌, ◌≡◌, List, ◌↔◌}
+use Rattle.std.specs.Prelude.{ℕ, ◌<◌, ◌≡◌, List, ◌↔◌, Result}
 use Rattle.laws.specs.Trials.{answers, verdict}
 use Rattle.sets.specs.Sets.{In}
 use Rattle.night.specs.declared.Header.{Header}
+use Rattle.night.specs.declared.refusals.Refusal.{Refusal}
 use Rattle.night.specs.Views.{clear_on, sealed_on}
 use Rattle.night.specs.Days.{in_version, on_day, ButDays}
 use Rattle.format.specs.Layout.{header_of, night_of}
@@ -17,7 +18,6 @@ use Rattle.verdicts.specs.Refusals.{Rooms}
 use Rattle.writes.specs.Back.{Bytes}
 use Rattle.writes.specs.Days.{Headed, as_four}
 use Rattle.planning.specs.declared.CheapestPlan.{CheapestPlan}
-use Rattle.planning.specs.declared.OfferedPlan.{OfferedPlan}
 use Rattle.planning.specs.Answers.{candidates_of, why_of, CheapestSays, OfferedSays}
 use Rattle.demands.specs.Demand3.{RunKeys}
 
@@ -44,8 +44,8 @@ pub record SaidAlike (s t : List ℕ) : Type 0 where
   pub checked : verdict (trials s) (tt {0}) ≡ verdict (trials t) tt
   pub candidates : (i : ℕ) → candidates_of s i ≡ candidates_of t i
   pub why : (i p : ℕ) → why_of s i p ≡ why_of t i p
-  pub cheapest : (before after : Rooms) (said : CheapestPlan) → CheapestSays s before after said ↔ CheapestSays t before after said
-  pub offered : (offer : List ℕ) (before after : Rooms) (said : OfferedPlan) → OfferedSays s offer before after said ↔ OfferedSays t offer before after said
+  pub cheapest : (before after : Rooms) (said : Result CheapestPlan Refusal) → CheapestSays s before after said ↔ CheapestSays t before after said
+  pub offered : (offer : List ℕ) (before after : Rooms) (said : Result ℕ Refusal) → OfferedSays s offer before after said ↔ OfferedSays t offer before after said
 
 -- of files past 1 to 4 whose nights differ in version and day alone, where every grant is in force on both days and both versions have a user and pairs alike
 abbrev pub AlwaysSaid : Type 0

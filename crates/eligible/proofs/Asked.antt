@@ -1,12 +1,13 @@
 -- What is asked of subjects by lists is what is asked by the night's views.
-use Prim.Native.Nat.{ℕ, zero, suc, ◌<◌, ◌≤◌}
-use mathlib.Core.Path.{◌≡◌, refl}
+use Prim.Native.Nat.{ℕ, zero, suc, ◌+◌, ◌<◌, ◌≤◌}
+use mathlib.Core.Path.{◌≡◌, refl, sym, ap, ◌∙◌}
 use mathlib.Core.List.{List}
 use native.Mathlib.Omega.{arith}
 use lib.ListN.{get_or}
 use Rattle.std.specs.Prelude.{if◌then◌else◌}
 use Rattle.laws.proofs.Upwards.{each_at}
-use Rattle.sets.specs.Sets.{single, unions}
+use Rattle.sets.specs.Sets.{single, union, unions}
+use Rattle.sets.proofs.Words.{unions_more}
 use Rattle.night.specs.Night.{Night}
 use Rattle.night.specs.Views.{clear_of, sealed_of}
 use Rattle.model.specs.declared.Table.{Table}
@@ -20,6 +21,10 @@ pub none_out : (s : ℕ) (clear sealed : List ℕ) → out_among s clear sealed 
 unfolding unions
 none_out zero clear sealed = refl
 none_out (suc s) clear sealed = rw (none_out s clear sealed, whole_empty (get_or clear s 0) (get_or sealed s 0)) (union_none 0)
+
+-- a turn of a loop that joins no set
+pub unions_kept : {all next : ℕ} (f : ℕ → ℕ) (n : ℕ) → all ≡ unions f n → f n ≡ 0 → next ≡ all → next ≡ unions f (n + 1)
+unions_kept f n so_far none next = next ∙ (so_far ∙ sym (unions_more f n ∙ (ap (λ (a : ℕ). union (unions f n) a) none ∙ union_none (unions f n))))
 
 -- unions of the same sets are the same
 pub unions_same : (f g : ℕ → ℕ) (n : ℕ) → ((k : ℕ) → k < n → f k ≡ g k) → unions f n ≡ unions g n

@@ -2,17 +2,19 @@
 use Prim.Native.Nat.{ℕ}
 use mathlib.Core.Path.{◌≡◌, refl, sym, ap, ◌∙◌}
 use mathlib.Core.List.{List}
+use Rattle.std.specs.Prelude.{Ok, Err}
 use Rattle.laws.specs.Trials.{Says, answers, refuses}
 use Rattle.laws.proofs.Trials.{never}
 use Rattle.night.specs.declared.Header.{Header}
 use Rattle.night.specs.Night.{Night}
+use Rattle.night.specs.Refusals.{number_of}
+use Rattle.night.proofs.Said.{said_once}
 use Rattle.format.specs.Layout.{night_in}
 use Rattle.trials.specs.Trials.{check_of}
-use Rattle.model.specs.Candidates.{candidate_set}
-use Rattle.reading.specs.declared.Checked.{Checked}
-use Rattle.reading.specs.declared.Checked.TheVariants.{Accepted, Refused}
+use Rattle.model.specs.Reasons.{Standing}
 use Rattle.eligible.specs.declared.Built.{Built}
-use Rattle.eligible.specs.Answers.{BuiltFor, PassOnce, SetOnce}
+use Rattle.eligible.specs.declared.PassOver.{PassOver}
+use Rattle.eligible.specs.Answers.{BuiltFor, PassOnce, SetOnce, StandingOnce}
 
 -- what a plan is made of
 pub built_same : (N : Night) (p q : Built) → BuiltFor N p → BuiltFor N q → p ≡ q
@@ -26,27 +28,25 @@ built_same N p q x y =
 same_header : (s : List ℕ) (h k : Header) → check_of s ≡ answers h → check_of s ≡ answers k → h ≡ k
 same_header s h k e f = let both : ◌≡◌ {A = Says Header} (answers h) (answers k) = sym e ∙ f in cc
 
-same_refusal : (s : List ℕ) (n p m q : ℕ) → check_of s ≡ refuses n p → check_of s ≡ refuses m q → ◌≡◌ {A = Checked} (Refused n p) (Refused m q)
-same_refusal s n p m q e f =
-    let both : ◌≡◌ {A = Says Header} (refuses n p) (refuses m q) = sym e ∙ f in
+-- two refusals are the same whatever would have been answered
+again : {n p m q : ℕ} → ◌≡◌ {A = Says Header} (refuses n p) (refuses m q) → ◌≡◌ {A = Says PassOver} (refuses n p) (refuses m q)
+again {n} {p} {m} {q} e =
     let number : n ≡ m = cc in
     let place : p ≡ q = cc in
     rw (number, place) refl
 
 pub pass_once : PassOnce
-pass_once s xs ys ps qs b d (Accepted h) (Accepted k) x y =
-    let same : h ≡ k = same_header s h k x.0 y.0 in
+pass_once s (Ok p) (Ok q) x y =
+    let same : p.header ≡ q.header = same_header s p.header q.header x.0 y.0 in
     let y' = rw (← same) at y in
-    (ap Accepted same, x.1 ∙ sym y'.1, x.2 ∙ sym y'.2, built_same (night_in s h) b d x.3 y'.3)
-pass_once s xs ys ps qs b d (Accepted h) (Refused n p) x y = absurd (never h n p (sym y.0 ∙ x.0))
-pass_once s xs ys ps qs b d (Refused n p) (Accepted h) x y = absurd (never h n p (sym x.0 ∙ y.0))
-pass_once s xs ys ps qs b d (Refused n p) (Refused m q) x y =
-    (same_refusal s n p m q x.0 y.0, x.1 ∙ sym y.1, x.2 ∙ sym y.2, x.3 ∙ sym y.3)
+    let built = built_same (night_in s p.header) p.built q.built x.3 y'.3 in
+    ap Ok (λ j. record { header = same j; sets = (x.1 ∙ sym y'.1) j; clear = (x.2 ∙ sym y'.2) j; built = built j })
+pass_once s (Ok p) (Err r) x y = absurd (never p.header (number_of r.reason) r.place (sym y ∙ x.0))
+pass_once s (Err r) (Ok p) x y = absurd (never p.header (number_of r.reason) r.place (sym x ∙ y.0))
+pass_once s (Err r) (Err q) x y = said_once PassOver (Err r) (Err q) (again (sym x ∙ y))
 
 pub set_once : SetOnce
-set_once s i set other (Accepted h) (Accepted k) x y =
-    let same : h ≡ k = same_header s h k x.0 y.0 in
-    (ap Accepted same, x.1 ∙ ap (λ (j : Header). candidate_set (night_in s j) i) same ∙ sym y.1)
-set_once s i set other (Accepted h) (Refused n p) x y = absurd (never h n p (sym y.0 ∙ x.0))
-set_once s i set other (Refused n p) (Accepted h) x y = absurd (never h n p (sym x.0 ∙ y.0))
-set_once s i set other (Refused n p) (Refused m q) x y = (same_refusal s n p m q x.0 y.0, x.1 ∙ sym y.1)
+set_once s i a b x y = said_once ℕ a b (x ∙ sym y)
+
+pub standing_once : StandingOnce
+standing_once s i p a b x y = said_once Standing a b (x ∙ sym y)

@@ -6,11 +6,11 @@ use mathlib.Core.List.{List, [], ◌∷◌}
 use native.Mathlib.Omega.{arith}
 use lib.Dec.{eqb, ltb}
 use borrow.Author.Tests.{eqb-false, ltb-true}
-use Rattle.std.specs.Prelude.{if◌then◌else◌}
+use Rattle.std.specs.Prelude.{Some, None, if◌then◌else◌}
 use Rattle.laws.specs.Choose.{any_of}
 use Rattle.laws.specs.Trials.{Says, answers, refuses, verdict}
 use Rattle.laws.proofs.Cases.{none-of}
-use Rattle.laws.proofs.Trials.{never, passed_then, refused_then, accepted_alike}
+use Rattle.laws.proofs.Trials.{passed_then, refused_then, accepted_alike}
 use Rattle.night.specs.declared.Header.{Header}
 use Rattle.night.specs.declared.Node.{Node}
 use Rattle.night.specs.Night.{Night, node_of}
@@ -19,20 +19,16 @@ use Rattle.night.specs.Promised.{Promised}
 use Rattle.night.specs.Views.{clear_of, sealed_of}
 use Rattle.format.specs.Layout.{header_of, night_in, night_of}
 use Rattle.model.specs.declared.Table.{Table}
-use Rattle.model.specs.declared.Standing.{Standing}
-use Rattle.model.specs.declared.Standing.TheVariants.{Candidate, Out}
+use Rattle.model.specs.declared.Out.{Out}
 use Rattle.model.specs.Tables.{least_view, table_of}
-use Rattle.model.specs.Reasons.{of_left, of_right, of_result, looked_at, standing_by, standing}
+use Rattle.model.specs.Reasons.{of_left, of_right, of_result, looked_at, Standing, standing_by, standing}
 use Rattle.model.proofs.Reasons.{or_else, table_by_table}
 use Rattle.tables.specs.declared.Columns.{Columns}
 use Rattle.tables.specs.Columns.{with_tied}
 use Rattle.trials.specs.Trials.{trials, check_of}
 use Rattle.trials.proofs.Opened.{accepted_header}
 use Rattle.verdicts.specs.Refusals.{no_step, asked_trials, why_trials}
-use Rattle.reading.specs.declared.Checked.TheVariants.{Accepted, Refused}
-use Rattle.reading.proofs.Answered.{said_once}
 use Rattle.eligible.specs.declared.walk.Walked.{Walked}
-use Rattle.eligible.specs.Answers.{StandingOnce}
 use Rattle.eligible.specs.Walk.{walked_of}
 use Rattle.eligible.proofs.Walks.{lower_left, lower_right}
 
@@ -116,7 +112,7 @@ module _ (N : Night) (i P E : ℕ) {u : Node} (node : u ≡ node_of N i) where
   by_left = standing_by of_left (least_view u.needed (table_of N u.left)) P E
 
   abbrev by_right : Standing
-  by_right = if uses_right u.kind then standing_by of_right (least_view u.needed (table_of N u.right)) P E else Candidate
+  by_right = if uses_right u.kind then standing_by of_right (least_view u.needed (table_of N u.right)) P E else None
 
   abbrev by_made : Standing
   by_made = standing_by of_result (table_of N i) P E
@@ -127,35 +123,21 @@ module _ (N : Night) (i P E : ℕ) {u : Node} (node : u ≡ node_of N i) where
   in-order = rw node (table_by_table N i P E)
 
   -- the left one puts the subject out
-  pub out_left : {a : Standing} (k c set : ℕ) → a ≡ by_left → a ≡ Out k c set → a ≡ standing N i P E
-  out_left k c set e out = out ∙ sym (in-order ∙ ap (λ (x : Standing). or_else x (or_else by_right by_made)) (sym e ∙ out))
+  pub out_left : {a : Standing} (o : Out) → a ≡ by_left → a ≡ Some o → a ≡ standing N i P E
+  out_left o e out = out ∙ sym (in-order ∙ ap (λ (x : Standing). or_else x (or_else by_right by_made)) (sym e ∙ out))
 
   -- it lets the subject pass
-  in_left : by_left ≡ Candidate → standing N i P E ≡ or_else by_right by_made
+  in_left : by_left ≡ None → standing N i P E ≡ or_else by_right by_made
   in_left fine = in-order ∙ ap (λ (x : Standing). or_else x (or_else by_right by_made)) fine
 
   -- the right one puts it out
-  pub out_right : {b : Standing} (k c set : ℕ) → by_left ≡ Candidate → b ≡ by_right → b ≡ Out k c set → b ≡ standing N i P E
-  out_right k c set fine e out = out ∙ sym (in_left fine ∙ ap (λ (x : Standing). or_else x by_made) (sym e ∙ out))
+  pub out_right : {b : Standing} (o : Out) → by_left ≡ None → b ≡ by_right → b ≡ Some o → b ≡ standing N i P E
+  out_right o fine e out = out ∙ sym (in_left fine ∙ ap (λ (x : Standing). or_else x by_made) (sym e ∙ out))
 
   -- both let it pass, and the result that the walk left is asked
-  pub by_result : {b c : Standing} {made : Walked} {tied : List ℕ} → by_left ≡ Candidate → b ≡ by_right → b ≡ Candidate
+  pub by_result : {b c : Standing} {made : Walked} {tied : List ℕ} → by_left ≡ None → b ≡ by_right → b ≡ None
       → made ≡ walked_of N i → tied ≡ (table_of N i).tied → c ≡ standing_by of_result (with_tied made.columns tied) P E → c ≡ standing N i P E
   by_result fine e fine-too walked its-ties f =
       f
       ∙ ap (λ (t : Table). standing_by of_result t P E) (table_whole N i walked its-ties)
       ∙ sym (in_left fine ∙ ap (λ (x : Standing). or_else x by_made) (sym e ∙ fine-too))
-
--- an answer and a refusal never go together, and of each there is one
-pub standing_once : StandingOnce
-standing_once s i p x y (Accepted h) (Accepted g) e f =
-    let told-alike : answers x ≡ answers y = sym e.1 ∙ f.1 in
-    let same : x ≡ y = cc in
-    (said_once (Accepted h) (Accepted g) (sym e.0 ∙ f.0), same)
-standing_once s i p x y (Accepted h) (Refused n q) e f = absurd (never x n q (sym f.0 ∙ e.1))
-standing_once s i p x y (Refused n q) (Accepted h) e f = absurd (never y n q (sym e.0 ∙ f.1))
-standing_once s i p x y (Refused n q) (Refused m r) e f =
-    let both : ◌≡◌ {A = Says Standing} (refuses n q) (refuses m r) = sym e.0 ∙ f.0 in
-    let number : n ≡ m = cc in
-    let place : q ≡ r = cc in
-    (rw (number, place) refl, e.1 ∙ sym f.1)

@@ -11,7 +11,7 @@ use lib.Seq.{ext_get_or, get_or-set_same, get_or-set_other}
 use borrow.Author.Tests.{eq-eqb, ne_eqb, eqb-true, eqb-false}
 use Rattle.std.specs.Prelude.{if◌then◌else◌}
 use Rattle.laws.specs.Upwards.{each}
-use Rattle.laws.proofs.Upwards.{agrees_none, upwards_past, each_at, each_length}
+use Rattle.laws.proofs.Upwards.{agrees_none, upwards_past, each_at, each_length, each_same}
 use Rattle.sets.specs.Sets.{In, union, unions}
 use Rattle.sets.proofs.Members.{in_none, in_unions}
 use Rattle.sets.proofs.Words.{unions_more}
@@ -19,6 +19,7 @@ use Rattle.night.specs.declared.Grant.{Grant}
 use Rattle.night.specs.Night.{Night, grant_of}
 use Rattle.model.proofs.TableLaws.{union_none}
 use Rattle.eligible.specs.Seen.{held_at}
+use Rattle.eligible.proofs.Asked.{unions_kept}
 
 -- what is in a set that is chosen or not at all
 in_chosen : (b : Bool) (s a : ℕ) → In a (if b then s else 0) → (b ≡ true) × In a s
@@ -61,6 +62,21 @@ module _ (to sets : Grant → ℕ) (N : Night) where
   held_other : (n k : ℕ) → (to (grant_of N n) ≡ k → ⊥) → held_at to sets N (n + 1) k ≡ held_at to sets N n k
   unfolding held_at
   held_other n k h = unions_more (added k) n ∙ rw (ne_eqb (to (grant_of N n)) k h) (union_none (unions (added k) n))
+
+  -- a grant whose sets are empty adds nothing anywhere
+  pub held_kept : {t : ℕ} {g : Grant} (m n : ℕ) (out : List ℕ) → g ≡ grant_of N n → out ≡ each m (held_at to sets N n) → t ≡ sets g → t ≡ 0
+      → out ≡ each m (held_at to sets N (n + 1))
+  unfolding held_at
+  held_kept {t} {g} m n out read inv more none =
+      let empty : sets (grant_of N n) ≡ 0 = ap sets (sym read) ∙ (sym more ∙ none) in
+      inv ∙ each_same (held_at to sets N n) (held_at to sets N (n + 1)) m (λ k l. unions_kept (added k) n refl (chosen k empty) refl)
+    where
+      chosen : (k : ℕ) → sets (grant_of N n) ≡ 0 → added k n ≡ 0
+      chosen k empty = rw empty (either (eqb (to (grant_of N n)) k))
+        where
+          either : (b : Bool) → ◌≡◌ {A = ℕ} (if b then 0 else 0) 0
+          either true = refl
+          either false = refl
 
   -- a turn of the pass: the grant's sets are joined to what its place holds, and every other place stays
   pub held_turn : {at s t : ℕ} {g : Grant} (m n : ℕ) (out : List ℕ) → g ≡ grant_of N n → at ≡ to g → at < m → out ≡ each m (held_at to sets N n)

@@ -1,73 +1,53 @@
-// Who of the first s subjects passes: a step's columns and tied sets are held against what each of them sees.
-ghost use Rattle.std.specs.Prelude.{ℕ, ◌≤◌, ◌≡◌, List, get_or, if◌then◌else◌};
-ghost use Rattle.sets.specs.Sets.{single, unions};
+// Who of the subjects passes: a step's columns and tied sets are held against what each of them sees.
+ghost use Rattle.std.specs.Prelude.{ℕ, ◌≤◌, ◌≡◌, List, get_or};
+ghost use Rattle.sets.specs.Sets.{unions};
 ghost use Rattle.tables.specs.Columns.{with_tied};
 ghost use Rattle.eligible.specs.Asked.{out_among, pass_among};
 
+use crate::seen::Seen;
 use sets::subjects;
 use tables::{Columns, may};
 
-// Subject p as a set where the test holds, else no subject.
-fn one_if(test: bool, p: u8) -> u16
-    ensures { result ≡ (if test then single 16 p else 0) }
-{
-    if test {
-        return subjects::single(p);
-    }
-    0
-}
-
 // Those whom condition 3 puts out by this tied set: they see it neither wholly in clear nor wholly sealed.
-pub(crate) fn out_by(s: u8, clear: &[u64; 16], sealed: &[u64; 16], set: u64) -> u16
-    requires { s ≤ 16 }
-    ensures { result ≡ out_among s clear.now sealed.now set }
+pub(crate) fn out_by(seen: &Seen<'_>, set: u64) -> u16
+    requires { seen.now.file.header.subjects ≤ 16 }
+    ensures { result ≡ out_among seen.now.file.header.subjects seen.now.clear seen.now.sealed set }
 {
-    let mut out: u16 = 0;
-    let mut p: u8 = 0;
-    while p < s {
+    let mut out = 0;
+    for p in 0..seen.file.header.subjects {
         let at = p as usize;
-        out = subjects::union(out, one_if(may::splits(set, clear[at], sealed[at]), p));
-        p += 1;
+        if may::splits(set, seen.clear[at], seen.sealed[at]) {
+            out = subjects::union(out, subjects::single(p));
+        }
     }
     out
 }
 
-// The same where most sets are empty, which puts nobody out.
-fn out_by_some(s: u8, clear: &[u64; 16], sealed: &[u64; 16], set: u64) -> u16
-    requires { s ≤ 16 }
-    ensures { result ≡ out_among s clear.now sealed.now set }
+// Those whom one of the tied sets puts out. Most sets are empty, which puts nobody out.
+pub(crate) fn out_by_any(seen: &Seen<'_>, tied: &[u64; 64]) -> u16
+    requires { seen.now.file.header.subjects ≤ 16 }
+    ensures { result ≡ unions (λ k. out_among seen.now.file.header.subjects seen.now.clear seen.now.sealed (get_or tied.now k 0)) 64 }
 {
-    if set == 0 {
-        return 0;
-    }
-    out_by(s, clear, sealed, set)
-}
-
-// Those whom one of the tied sets puts out.
-pub(crate) fn out_by_any(s: u8, clear: &[u64; 16], sealed: &[u64; 16], tied: &[u64; 64]) -> u16
-    requires { s ≤ 16 }
-    ensures { result ≡ unions (λ k. out_among s clear.now sealed.now (get_or tied.now k 0)) 64 }
-{
-    let mut out: u16 = 0;
-    let mut k: usize = 0;
-    while k < 64 {
-        out = subjects::union(out, out_by_some(s, clear, sealed, tied[k]));
-        k += 1;
+    let mut out = 0;
+    for &set in tied {
+        if set != 0 {
+            out = subjects::union(out, out_by(seen, set));
+        }
     }
     out
 }
 
-// Those of whom conditions 1 and 2 hold.
-pub(crate) fn passing(s: u8, clear: &[u64; 16], sealed: &[u64; 16], t: Columns) -> u16
-    requires { s ≤ 16 }
-    ensures { (tied : List ℕ) → result ≡ pass_among s clear.now sealed.now (with_tied t tied) }
+// Those of whom conditions 1 and 2 hold. (The loop is that of `out_by` with another test: a closure for the test would need a definition of its own.)
+pub(crate) fn passing(seen: &Seen<'_>, t: Columns) -> u16
+    requires { seen.now.file.header.subjects ≤ 16 }
+    ensures { (tied : List ℕ) → result ≡ pass_among seen.now.file.header.subjects seen.now.clear seen.now.sealed (with_tied t tied) }
 {
-    let mut set: u16 = 0;
-    let mut p: u8 = 0;
-    while p < s {
+    let mut set = 0;
+    for p in 0..seen.file.header.subjects {
         let at = p as usize;
-        set = subjects::union(set, one_if(may::passes_both(t, clear[at], sealed[at]), p));
-        p += 1;
+        if may::passes_both(t, seen.clear[at], seen.sealed[at]) {
+            set = subjects::union(set, subjects::single(p));
+        }
     }
     set
 }

@@ -7,29 +7,15 @@ ghost use Rattle.model.specs.Ties.{gathered, tie, merged};
 
 use sets::attributes;
 
-// The first where the test holds, else the second.
-fn choose(test: bool, first: u64, second: u64) -> u64
-    ensures { result ≡ (if test then first else second) }
-{
-    if test {
-        return first;
-    }
-    second
-}
-
 // The set with every tied set that it meets.
 fn gather(tied: &[u64; 64], set: u64) -> u64
     ensures { result ≡ gathered tied.now set 64 }
 {
     let mut all = set;
-    let mut k: usize = 0;
-    while k < 64 {
-        all = choose(
-            attributes::has(set, k as u8),
-            attributes::union(all, tied[k]),
-            all,
-        );
-        k += 1;
+    for k in 0..64 {
+        if attributes::has(set, k as u8) {
+            all = attributes::union(all, tied[k]);
+        }
     }
     all
 }
@@ -39,10 +25,10 @@ fn put(tied: &mut [u64; 64], all: u64)
     requires { length tied.old ≡ 64 }
     ensures { tied.new ≡ each 64 (λ k. if member all k then all else get_or tied.old k 0) }
 {
-    let mut k: usize = 0;
-    while k < 64 {
-        tied[k] = choose(attributes::has(all, k as u8), all, tied[k]);
-        k += 1;
+    for k in 0..64 {
+        if attributes::has(all, k as u8) {
+            tied[k] = all;
+        }
     }
 }
 
@@ -56,24 +42,14 @@ pub(crate) fn tie(tied: &mut [u64; 64], set: u64) -> u64
     all
 }
 
-// One of the second operand's tied sets is tied, where there is one.
-fn tie_some(tied: &mut [u64; 64], set: u64)
-    requires { length tied.old ≡ 64 }
-    ensures { tied.new ≡ tie tied.old set }
-{
-    if set != 0 {
-        tie(tied, set);
-    }
-}
-
 // Two operands' tied sets together.
 pub(crate) fn merge(tied: &mut [u64; 64], other: &[u64; 64])
     requires { length tied.old ≡ 64 }
     ensures { tied.new ≡ merged tied.old other.now 64 }
 {
-    let mut k: usize = 0;
-    while k < 64 {
-        tie_some(tied, other[k]);
-        k += 1;
+    for &set in other {
+        if set != 0 {
+            tie(tied, set);
+        }
     }
 }

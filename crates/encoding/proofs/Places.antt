@@ -5,6 +5,7 @@ use mathlib.Core.Path.{◌≡◌, refl}
 use mathlib.Core.Bool.{Bool, true, false}
 use native.Mathlib.Nat.{mul-le-mul}
 use native.Mathlib.Omega.{arith}
+use lib.ListN.{length}
 use borrow.Author.Tests.{ltb-false}
 use Rattle.std.specs.Prelude.{if◌then◌else◌}
 use Rattle.laws.proofs.Cases.{none-of}
@@ -13,12 +14,14 @@ use Rattle.night.specs.Versions.{has_pairs, header_length, grant_length, node_le
 use Rattle.trials.specs.Rules.{counts_bad}
 use Rattle.format.proofs.Written.{header_most, grant_most, node_most}
 use Rattle.format.specs.Layout.{grants_from, nodes_from, pairs_from, pairs_in, step_prices_from, link_prices_from, file_length}
-use Rattle.encoding.specs.Encoded.{most_relations, most_grants, most_nodes, longest}
+use Rattle.writes.specs.Values.{Values}
+use Rattle.writes.proofs.Counted.{Counted}
+use Rattle.encoding.specs.Encoded.{longest}
 
 pub record Places (h : Header) : Type 0 where
-  pub relations_few : h.relations ≤ most_relations
-  pub grants_few : h.grants ≤ most_grants
-  pub nodes_few : h.nodes ≤ most_nodes
+  pub relations_few : h.relations ≤ 16
+  pub grants_few : h.grants ≤ 272
+  pub nodes_few : h.nodes ≤ 64
   pub steps_few : h.nodes * h.subjects ≤ 1024
   pub links_few : h.subjects * h.subjects ≤ 256
   pub grants_at : grants_from h ≡ header_length h.version + 9 * h.relations
@@ -65,3 +68,28 @@ pairs_few h l = go (has_pairs h.version)
     go : (b : Bool) → (if b then h.pairs else 0) < 256
     go true = l
     go false = omega arith
+
+-- the sections of values that are as many as the counts say end within the file
+pub record Within (vs : Values) : Type 0 where
+  pub header_within : header_length vs.header.version ≤ longest
+  pub relations_within : header_length vs.header.version + 9 * length vs.relations ≤ longest
+  pub grants_within : grants_from vs.header + grant_length vs.header.version * length vs.grants ≤ longest
+  pub nodes_within : nodes_from vs.header + node_length vs.header.version * length vs.nodes ≤ longest
+  pub pairs_within : pairs_from vs.header + length vs.pairs ≤ longest
+  pub steps_within : step_prices_from vs.header + 4 * length vs.step_prices ≤ longest
+  pub links_within : link_prices_from vs.header + 4 * length vs.link_prices ≤ longest
+  pub file_within : file_length vs.header ≤ longest
+
+pub within_of : (vs : Values) → Places vs.header → Counted vs → pairs_in vs.header < 256 → Within vs
+within_of vs places many few =
+    let short = places.short few in
+    record {
+      header_within = omega arith;
+      relations_within = rw many.relations (omega arith);
+      grants_within = rw many.grants (omega arith);
+      nodes_within = rw many.nodes (omega arith);
+      pairs_within = rw many.pairs (omega arith);
+      steps_within = rw many.steps (omega arith);
+      links_within = rw many.links (omega arith);
+      file_within = short;
+    }

@@ -1,41 +1,53 @@
--- A section filled record by record: the first i of them stand in the room, and fit. Said once, for any kind of record.
+-- A section filled record by record: the first i of them stand in the room. Said once, for any kind of record.
 use Prim.Native.Nat.{ℕ, ◌+◌, ◌*◌, ◌<◌, ◌≤◌}
-use mathlib.Core.Path.{◌≡◌, refl, sym, ap, ◌∙◌}
+use mathlib.Core.Path.{◌≡◌, refl, ap, ◌∙◌}
+use mathlib.Core.List.{List, [], ◌∷◌, ◌++◌, append-nil}
 use mathlib.Core.Bool.{Bool, true, false}
-use mathlib.Core.List.{List}
-use native.Mathlib.Omega.{arith}
 use lib.Dec.{ltb}
-use lib.ListN.{length}
 use borrow.Author.Tests.{ltb-true, ltb-false}
+use native.Mathlib.Numerals.{add-one}
+use native.Mathlib.Omega.{arith}
+use lib.ListN.{length, get_or, take, get_or-eq_default}
+use lib.Seq.{take-suc, length-take-le}
+use Rattle.std.proofs.lemmas.List.{get_or_default}
 use Rattle.laws.specs.InOrder.{in_order}
-use Rattle.laws.specs.Upwards.{upwards, each}
-use Rattle.laws.proofs.InOrder.{in_order_more, in_order_length}
-use Rattle.laws.proofs.Upwards.{each_length}
+use Rattle.laws.proofs.InOrder.{in_order_append, in_order_length}
 use Rattle.encoding.specs.Stored.{Stored}
-use Rattle.encoding.proofs.Put.{put_then, put_same}
+use Rattle.encoding.proofs.Put.{put_then, put_same, none_put}
 
-module _ {A : Type 0} (f : A → List ℕ) (Fit : A → Type 0) (g : ℕ → A) where
-  pub record SoFar (before : List ℕ) (at i : ℕ) (room : List ℕ) : Type 0 where
-    pub stored : Stored before room at (in_order f (each i g))
-    pub fits : (k : ℕ) → k < i → Fit (g k)
-
-  pub none_yet : (s : List ℕ) (at : ℕ) → SoFar s at 0 s
-  unfolding in_order upwards
-  none_yet s at = record { stored = record { all = refl }; fits = λ k l. absurd (omega arith) }
+module _ {A : Type 0} (f : A → List ℕ) where
+  -- none yet
+  pub none_yet : (xs : List A) (s : List ℕ) (at : ℕ) → Stored s s at (in_order f (take 0 xs))
+  unfolding in_order
+  none_yet xs s at = none_put s at
 
   -- one record more, each w long
-  pub one_more : (w : ℕ) → ((x : A) → length (f x) ≡ w) → {before : List ℕ} {at i : ℕ} {room after : List ℕ} → SoFar before at i room → Stored room after (at + w * i) (f (g i)) → Fit (g i) → SoFar before at (i + 1) after
-  one_more w wide {before} {at} {i} {room} {after} so_far put fit = record { stored = put_same (sym (in_order_more f g i)) (put_then (w * i) long so_far.stored put); fits = all }
-    where
-      long : length (in_order f (each i g)) ≡ w * i
-      long = in_order_length f w wide (each i g) ∙ ap (λ (n : ℕ). w * n) (each_length g i)
+  module _ (w : ℕ) (wide : (x : A) → length (f x) ≡ w) where
+    pub one_more : (xs : List A) (x : A) {before room after : List ℕ} {at i : ℕ} → i < length xs → x ≡ get_or xs i x → Stored before room at (in_order f (take i xs))
+        → Stored room after (at + w * i) (f x) → Stored before after at (in_order f (take (i + 1) xs))
+    unfolding in_order
+    one_more xs x {before} {room} {after} {at} {i} l is so_far put =
+        let front : take (i + 1) xs ≡ take i xs ++ (x ∷ []) = rw (add-one i, take-suc xs i x l, ← is) refl in
+        let long : length (in_order f (take i xs)) ≡ w * i = in_order_length f w wide (take i xs) ∙ ap (λ (n : ℕ). w * n) (length-take-le i xs (omega arith)) in
+        let more : in_order f (take i xs) ++ f x ≡ in_order f (take (i + 1) xs) = rw (front, in_order_append f (take i xs) (x ∷ []), append-nil (f x)) refl in
+        put_same more (put_then (w * i) long so_far put)
 
-      all : (k : ℕ) → k < i + 1 → Fit (g k)
-      all k l = go (ltb k i) refl
-        where
-          go : (b : Bool) → ltb k i ≡ b → Fit (g k)
-          go true e = so_far.fits k (ltb-true k i e)
-          go false e =
-              let p : i ≤ k = ltb-false k i e in
-              let q : k ≡ i = omega arith in
-              rw q fit
+-- what holds of the records below i, and of record i
+pub fits_more : {A : Type 0} (P : A → Type 0) (xs : List A) (x : A) {i : ℕ} → i < length xs → x ≡ get_or xs i x → ((k : ℕ) (d : A) → k < i → P (get_or xs k d)) → P x
+    → (k : ℕ) (d : A) → k < i + 1 → P (get_or xs k d)
+fits_more P xs x {i} l is all here k d q = go (ltb k i) refl
+  where
+    go : (b : Bool) → ltb k i ≡ b → P (get_or xs k d)
+    go true e = all k d (ltb-true k i e)
+    go false e =
+        let p : i ≤ k = ltb-false k i e in
+        let same : k ≡ i = omega arith in
+        rw (same, get_or_default xs i d x l, ← is) here
+
+-- and so of all, and of what stands past the last
+pub all_fit : {A : Type 0} (P : A → Type 0) (xs : List A) (d : A) → P d → ((k : ℕ) (d : A) → k < length xs → P (get_or xs k d)) → (k : ℕ) → P (get_or xs k d)
+all_fit P xs d past all k = go (ltb k (length xs)) refl
+  where
+    go : (b : Bool) → ltb k (length xs) ≡ b → P (get_or xs k d)
+    go true e = all k d (ltb-true k (length xs) e)
+    go false e = rw (get_or-eq_default xs d (ltb-false k (length xs) e)) past

@@ -48,7 +48,7 @@ fn case_at(rt: &impl Print, input: &[u8], at: usize) -> io::Result<usize>
     if input.len() < from {
         return Ok(input.len());
     }
-    let to = from + wide(input[sized]) * 256 + wide(input[sized + 1]);
+    let to = from + u16::from_be_bytes([input[sized], input[sized + 1]]) as usize;
     if input.len() < to {
         return Ok(input.len());
     }
@@ -62,6 +62,7 @@ fn case_at(rt: &impl Print, input: &[u8], at: usize) -> io::Result<usize>
     Ok(to)
 }
 
+// A byte as a length. The sums of the places rest on its bound.
 fn wide(x: u8) -> usize
     ensures { result < 256 }
 {

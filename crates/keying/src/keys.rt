@@ -1,5 +1,5 @@
 // The keys of any plan: which attributes share one, its name, and who holds it. A list that is too short counts as 0 past its end.
-ghost use Rattle.std.specs.Prelude.{ℕ, ◌≡◌, List, length, get_or, if◌then◌else◌};
+ghost use Rattle.std.specs.Prelude.{ℕ, ◌≡◌, List, get_or, if◌then◌else◌};
 ghost use Rattle.laws.specs.Upwards.{each};
 ghost use Rattle.sets.specs.Sets.{member, union, meet, apart, single};
 ghost use Rattle.night.specs.Kinds.{attribute};
@@ -15,37 +15,20 @@ pub struct Delivery {
     pub opened: u64,
 }
 
-// What stands at node i, nothing past the end. Lent, since it is asked for each node and each attribute.
-fn set_at(sets: &[u64; 64], i: u8) -> u64
-    requires { length sets.now ≡ 64 }
-    ensures { result ≡ get_or sets.now i 0 }
+// What a list has for node i or attribute i, nothing past its end.
+fn entry<T: Copy>(list: &[T], i: u8, nothing: T) -> T
+    ensures { result ≡ get_or list.now i nothing }
 {
-    if 64 <= i {
-        return 0;
-    }
-    sets[i as usize]
-}
-
-// Node i's subject, 0 past the end.
-fn subject_at(choice: &[u8], i: u8) -> u8
-    ensures { result ≡ get_or choice.now i 0 }
-{
-    let at = i as usize;
-    if choice.len() <= at {
-        return 0;
-    }
-    choice[at]
+    list.get(i as usize).copied().unwrap_or(nothing)
 }
 
 // All that one of the first n nodes seals, whoever runs them and whatever they open.
 fn ever_sealed(seals: [u64; 64], n: u8) -> u64
     ensures { (subjects opens : List ℕ) → result ≡ ever_sealed (node_events subjects opens seals n) }
 {
-    let mut all: u64 = 0;
-    let mut i: u8 = 0;
-    while i < n {
-        all = attributes::union(all, set_at(&seals, i));
-        i += 1;
+    let mut all = 0;
+    for i in 0..n {
+        all = attributes::union(all, entry(&seals, i, 0));
     }
     all
 }
@@ -55,12 +38,11 @@ fn group_of(tied: [u64; 64], sealed: u64, k: u8) -> u64
     ensures { result ≡ (if member sealed k then meet sealed (union (attribute k) (get_or tied k 0)) else 0) }
 {
     if attributes::has(sealed, k) {
-        return attributes::meet(
-            sealed,
-            attributes::union(attributes::single(k), set_at(&tied, k)),
-        );
+        let tied = attributes::union(attributes::single(k), entry(&tied, k, 0));
+        attributes::meet(sealed, tied)
+    } else {
+        0
     }
-    0
 }
 
 // Subject p as a set where it opens or seals one of the group, else no subject.
@@ -68,28 +50,21 @@ fn as_holder(group: u64, p: u8, opened: u64, sealed: u64) -> u16
     ensures { result ≡ (if apart group (union opened sealed) then 0 else single 16 p) }
 {
     if attributes::apart(group, attributes::union(opened, sealed)) {
-        return 0;
+        0
+    } else {
+        subjects::single(p)
     }
-    subjects::single(p)
 }
 
 // The subjects that seal or open one of the group at one of the first n nodes.
 fn holders_of(choice: &[u8], opens: [u64; 64], seals: [u64; 64], n: u8, group: u64) -> u16
     ensures { result ≡ holders_of (node_events choice.now opens seals n) group }
 {
-    let mut all: u16 = 0;
-    let mut i: u8 = 0;
-    while i < n {
-        all = subjects::union(
-            all,
-            as_holder(
-                group,
-                subject_at(choice, i),
-                set_at(&opens, i),
-                set_at(&seals, i),
-            ),
-        );
-        i += 1;
+    let mut all = 0;
+    for i in 0..n {
+        let subject = entry(choice, i, 0);
+        let holder = as_holder(group, subject, entry(&opens, i, 0), entry(&seals, i, 0));
+        all = subjects::union(all, holder);
     }
     all
 }
@@ -117,10 +92,8 @@ pub fn names(tied: [u64; 64], seals: [u64; 64], n: u8) -> [u64; 64]
 {
     let sealed = ever_sealed(seals, n);
     let mut all = [0u64; 64];
-    let mut k: usize = 0;
-    while k < 64 {
-        all[k] = attributes::lowest(group_of(tied, sealed, k as u8)) as u64;
-        k += 1;
+    for k in 0..64 {
+        all[k as usize] = attributes::lowest(group_of(tied, sealed, k)) as u64;
     }
     all
 }
@@ -138,11 +111,9 @@ pub fn holders(
 {
     let sealed = ever_sealed(seals, n);
     let mut all = [0u64; 64];
-    let mut k: usize = 0;
-    while k < 64 {
-        let group = group_of(tied, sealed, k as u8);
-        all[k] = holders_with(choice, opens, seals, n, d, group) as u64;
-        k += 1;
+    for k in 0..64 {
+        let group = group_of(tied, sealed, k);
+        all[k as usize] = holders_with(choice, opens, seals, n, d, group) as u64;
     }
     all
 }

@@ -1,27 +1,32 @@
--- How many sets are read together.
+-- How many sets are read together: as many as the pairs of a node that names some; else one, or none.
 use mathlib.Core.Path.{◌≡◌, refl}
-use mathlib.Core.Bool.{Bool, true, false}
-use mathlib.Core.List.{[], ◌∷◌}
-use lib.Dec.{eqb}
+use mathlib.Core.Bool.{true, false}
+use native.Mathlib.Omega.{arith}
 use lib.ListN.{length}
-use Rattle.std.specs.Prelude.{if◌then◌else◌}
-use Rattle.laws.specs.Upwards.{each}
+use borrow.Author.Tests.{eqb-true, ne_eqb}
 use Rattle.laws.proofs.Upwards.{each_length}
 use Rattle.night.specs.declared.Node.{Node}
 use Rattle.night.specs.Night.{Night}
-use Rattle.night.specs.Kinds.{its_pair, both_of, reads, read_together}
+use Rattle.night.specs.Kinds.{uses_pairs, its_pair, both_of, read_together}
+use Rattle.kinds.specs.Plain.{reads_at_once}
+use Rattle.kinds.proofs.PlainLaws.{together_plain}
 
-pub together_many : (N : Night) (v : Node)
-    → (if eqb v.kind 3 then 1 else if eqb v.kind 5 then 1 else if eqb v.kind 8 then 1 else if eqb v.kind 9 then v.count else 0)
-    ≡ length (read_together N v)
-unfolding read_together
-together_many N v = go (eqb v.kind 3) (eqb v.kind 5) (eqb v.kind 8) (eqb v.kind 9)
-  where
-    go : (a b c d : Bool)
-        → (if a then 1 else if b then 1 else if c then 1 else if d then v.count else 0)
-        ≡ length (if a then reads N v ∷ [] else if b then reads N v ∷ [] else if c then reads N v ∷ [] else if d then each v.count (λ k. both_of (its_pair N v k)) else [])
-    go true b c d = refl
-    go false true c d = refl
-    go false false true d = refl
-    go false false false true = rw (each_length (λ k. both_of (its_pair N v k)) v.count) refl
-    go false false false false = refl
+module _ (N : Night) (v : Node) where
+  pub together_pairs : uses_pairs v.kind ≡ true → v.count ≡ length (read_together N v)
+  unfolding uses_pairs read_together
+  together_pairs u =
+      let kind = eqb-true v.kind 9 u in
+      rw (
+        ne_eqb v.kind 3 (λ e. omega arith),
+        ne_eqb v.kind 5 (λ e. omega arith),
+        ne_eqb v.kind 8 (λ e. omega arith),
+        u,
+        each_length (λ k. both_of (its_pair N v k)) v.count,
+      )
+      refl
+
+  pub together_one : uses_pairs v.kind ≡ false → reads_at_once v.kind ≡ true → 1 ≡ length (read_together N v)
+  together_one u e = rw (together_plain N v u, e) refl
+
+  pub together_none : uses_pairs v.kind ≡ false → reads_at_once v.kind ≡ false → 0 ≡ length (read_together N v)
+  together_none u e = rw (together_plain N v u, e) refl

@@ -1,6 +1,7 @@
 -- The laws that every layer's proofs share.
 pub mod Cases
 pub mod First
+pub mod Search
 pub mod Trials
 pub mod Computed
 pub mod Upwards

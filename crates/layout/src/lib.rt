@@ -2,9 +2,10 @@
 #![tactic(auto)]
 
 mod bytes;
-pub mod opened;
+pub mod file;
 pub mod places;
-mod records;
 mod short;
 pub mod values;
 mod whole;
+
+pub use file::PlanFile;

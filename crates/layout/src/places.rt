@@ -5,6 +5,7 @@ ghost use Rattle.format.specs.Layout.{grants_from, nodes_from, pairs_from, pairs
 use night::{Header, versions};
 
 // Where the grants start.
+#[tactic(auto, unfolding(format::specs::Layout::grants_from))]
 pub fn grants_from(h: Header) -> usize
     ensures { (result ≡ grants_from h) × (result < 2400) }
 {
@@ -12,6 +13,7 @@ pub fn grants_from(h: Header) -> usize
 }
 
 // Where the nodes start.
+#[tactic(auto, unfolding(format::specs::Layout::nodes_from))]
 pub fn nodes_from(h: Header) -> usize
     ensures { (result ≡ nodes_from h) × (result < 1_510_000) }
 {
@@ -19,6 +21,7 @@ pub fn nodes_from(h: Header) -> usize
 }
 
 // Where the pairs start.
+#[tactic(auto, unfolding(format::specs::Layout::pairs_from))]
 pub fn pairs_from(h: Header) -> usize
     ensures { (result ≡ pairs_from h) × (result < 1_550_000) }
 {
@@ -26,16 +29,19 @@ pub fn pairs_from(h: Header) -> usize
 }
 
 // How many pairs there are.
+#[tactic(auto, unfolding(format::specs::Layout::pairs_in))]
 pub fn pairs_in(h: Header) -> usize
     ensures { (result ≡ pairs_in h) × (result < 256) }
 {
     if versions::has_pairs(h.version) {
-        return h.pairs as usize;
+        h.pairs as usize
+    } else {
+        0
     }
-    0
 }
 
 // Where the step prices start.
+#[tactic(auto, unfolding(format::specs::Layout::step_prices_from))]
 pub fn step_prices_from(h: Header) -> usize
     ensures { (result ≡ step_prices_from h) × (result < 1_600_000) }
 {
@@ -64,6 +70,7 @@ pub(crate) fn prices(h: Header) -> usize
 }
 
 // Where the link prices start.
+#[tactic(auto, unfolding(format::specs::Layout::link_prices_from))]
 pub fn link_prices_from(h: Header) -> usize
     ensures { (result ≡ link_prices_from h) × (result < 1_900_000) }
 {
@@ -71,6 +78,7 @@ pub fn link_prices_from(h: Header) -> usize
 }
 
 // Where the file ends.
+#[tactic(auto, unfolding(format::specs::Layout::file_length))]
 pub fn file_length(h: Header) -> usize
     ensures { result ≡ file_length h }
 {

@@ -34,52 +34,8 @@ pub(crate) fn grant_in(file: &[u8], at: usize, version: u16) -> Grant
     }
 }
 
-// The same, for the check alone, which reads every grant once (`node_once` says why).
-pub(crate) fn grant_once(file: &[u8], at: usize, version: u16) -> Grant
-    requires { (at + 18 ≤ length file.now) × (at < 2 ^ 30) }
-    ensures { result ≡ grant_at version file.now at }
-{
-    let dated = versions::has_days(version);
-    let first = bytes::two_or(dated, file, at + 18, 0);
-    let last = bytes::two_or(dated, file, at + 20, 65535);
-    Grant {
-        relation: file[at],
-        subject: file[at + 1],
-        first,
-        last,
-        clear: bytes::eight_in(file, at + 2),
-        sealed: bytes::eight_in(file, at + 10),
-    }
-}
-
 // A node's record. Its last two bytes, which not every version has, are read as any byte is.
 pub(crate) fn node_in(file: &[u8], at: usize, version: u16) -> Node
-    requires { (at + 28 ≤ length file.now) × (at < 2 ^ 31) }
-    ensures { result ≡ node_at version file.now at }
-{
-    let paired = versions::has_pairs(version);
-    let first = bytes::byte_if(paired, file, at + 28);
-    let count = bytes::byte_if(paired, file, at + 29);
-    Node {
-        kind: file[at],
-        left: file[at + 1],
-        right: file[at + 2],
-        x: file[at + 3],
-        y: file[at + 4],
-        spare1: file[at + 5],
-        spare2: file[at + 6],
-        spare3: file[at + 7],
-        set: bytes::eight_in(file, at + 8),
-        needed: bytes::eight_in(file, at + 16),
-        size: bytes::four_in(file, at + 24),
-        first,
-        count,
-    }
-}
-
-// The same, for the check alone, which reads every node once: what has one caller is inlined, and the record is then never stored. The bytes that may not be
-// there are read before the others: a test between the loads of a number would undo its one load.
-pub(crate) fn node_once(file: &[u8], at: usize, version: u16) -> Node
     requires { (at + 28 ≤ length file.now) × (at < 2 ^ 31) }
     ensures { result ≡ node_at version file.now at }
 {

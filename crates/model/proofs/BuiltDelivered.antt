@@ -2,7 +2,7 @@
 use Prim.Native.Nat.{ℕ, ◌+◌, ◌-◌, ◌<◌}
 use mathlib.Core.Path.{◌≡◌, refl, sym, ◌∙◌}
 use mathlib.Core.Bool.{Bool, true, false}
-use mathlib.Core.Logic.{◌⊎◌, inr, ⊎_elim}
+use mathlib.Core.Logic.{inr, ⊎_elim}
 use native.Mathlib.Omega.{arith}
 use lib.Dec.{eqb}
 use borrow.Author.Tests.{eqb-true, eqb-false, eq-eqb}
@@ -15,7 +15,7 @@ use Rattle.night.specs.Night.{Night, node_of}
 use Rattle.night.specs.Kinds.{attribute, visible}
 use Rattle.night.specs.Promised.{Promised}
 use Rattle.night.proofs.Visible.{visible_below}
-use Rattle.run.specs.Run.{clear, sealed, is_sealed, result_of, leaving, delivered, sealed_in}
+use Rattle.run.specs.Run.{is_sealed, result_of, leaving, delivered, sealed_in}
 use Rattle.model.specs.Tables.{leaf_table, table_of}
 use Rattle.model.specs.Choice.{Choice}
 use Rattle.model.specs.Plan.{sealings, built}

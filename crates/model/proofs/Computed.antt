@@ -11,7 +11,7 @@ use Rattle.laws.specs.Upwards.{upwards}
 use Rattle.sets.specs.Sets.{In, bit, member, union, meet, minus, within, single, lowest, unions}
 use Rattle.night.specs.Night.{relation_of, grant_of, node_of, pair_of, step_price, link_price}
 use Rattle.night.specs.Kinds.{uses_left, uses_right, its_pair, both_of, pairs_read, reads, read_together, visible_after}
-use Rattle.night.specs.Views.{is_for, shares_day, is_for_on, grant_on, view_on, clear_on, sealed_on, clear_of, sealed_of}
+use Rattle.night.specs.Views.{is_for, shares_day, is_for_on, grant_on, view_on, clear_on, sealed_on}
 use Rattle.model.specs.Ties.{gathered, tie, merged}
 use Rattle.model.specs.Tables.{least_view, tests, ties, joined, result, leaf_table, step_table, table_step, tables, table_of}
 use Rattle.model.specs.Candidates.{clear_offends, sealed_offends, tied_offends, may, may_take, is_candidate, candidate_set}

@@ -18,7 +18,7 @@ use Rattle.night.specs.Kinds.{uses_left, uses_right}
 use Rattle.night.specs.Promised.{Promised}
 use Rattle.model.specs.Candidates.{candidate_set}
 use Rattle.model.specs.Choice.{Choice, Admissible, owner_of, handed, cost_at}
-use Rattle.model.specs.Dp.{subjects_of, handed_on, best_of, no_row, best_child, row_entry, row_step, cost_rows}
+use Rattle.model.specs.Dp.{subjects_of, least_of, handed_on, best_of, no_row, best_child, row_entry, row_step, cost_rows}
 use Rattle.model.proofs.May.{set_exactly}
 use Rattle.model.proofs.Parents.{children}
 use Rattle.model.proofs.Lowest.{Found, best_found}
@@ -32,7 +32,7 @@ unfoldable pub cost_of : Night → ℕ → ℕ → ℕ
 cost_of N i s = get_or (get_or (cost_rows N) i no_row) s 0
 
 unfoldable pub least_child : Night → ℕ → ℕ → ℕ
-least_child N k s = (best_child N (cost_rows N) k s).least
+least_child N k s = least_of (best_child N (cost_rows N) k s)
 
 -- what a node costs, by its children
 pub cost_children : (N : Night) (c : Choice) (i : ℕ) → cost_at N c i ≡ paid N i (c i) + children N (λ k. handed N c i k) i
@@ -90,9 +90,9 @@ module _ (N : Night) (sound : Promised N) (i : ℕ) (l : i < N.header.nodes) whe
       go false e = some (eqb-false (node_of N i).kind 0 e)
 
   -- a child's row is known when its parent's is made
-  child_row : (k s : ℕ) → k < i → (best_child N (upwards (row_step N) i) k s).least ≡ least_child N k s
+  child_row : (k s : ℕ) → k < i → least_of (best_child N (upwards (row_step N) i) k s) ≡ least_child N k s
   unfolding least_child best_child
-  child_row k s h = ap (λ (r : List ℕ). (best_of N r (subjects_of N k) (node_of N k).size s 16).least) (row_known N k i h (omega arith))
+  child_row k s h = ap (λ (r : List ℕ). least_of (best_of N r (subjects_of N k) (node_of N k).size s 16)) (row_known N k i h (omega arith))
 
   entry_made : (s : ℕ) → row_entry N (upwards (row_step N) i) i s ≡ paid N i s + children N (λ k. least_child N k s) i
   unfolding row_entry paid children
@@ -101,10 +101,10 @@ module _ (N : Night) (sound : Promised N) (i : ℕ) (l : i < N.header.nodes) whe
       p : ℕ
       p = if eqb (node_of N i).kind 0 then 0 else step_price N i s
 
-      go : (a b : Bool) → (a ≡ true → (best_child N (upwards (row_step N) i) (node_of N i).left s).least ≡ least_child N (node_of N i).left s)
-          → (b ≡ true → (best_child N (upwards (row_step N) i) (node_of N i).right s).least ≡ least_child N (node_of N i).right s)
-          → p + (if a then (best_child N (upwards (row_step N) i) (node_of N i).left s).least else 0)
-          + (if b then (best_child N (upwards (row_step N) i) (node_of N i).right s).least else 0)
+      go : (a b : Bool) → (a ≡ true → least_of (best_child N (upwards (row_step N) i) (node_of N i).left s) ≡ least_child N (node_of N i).left s)
+          → (b ≡ true → least_of (best_child N (upwards (row_step N) i) (node_of N i).right s) ≡ least_child N (node_of N i).right s)
+          → p + (if a then least_of (best_child N (upwards (row_step N) i) (node_of N i).left s) else 0)
+          + (if b then least_of (best_child N (upwards (row_step N) i) (node_of N i).right s) else 0)
           ≡ p + ((if a then least_child N (node_of N i).left s else 0) + (if b then least_child N (node_of N i).right s else 0))
       go true true x y = omega (arith, x refl, y refl)
       go true false x y = omega (arith, x refl)

@@ -6,12 +6,13 @@ use mathlib.Core.Logic.{⊎_elim}
 use native.Mathlib.Nat.{eq-or-lt_of_le}
 use native.Mathlib.Omega.{arith}
 use lib.ListN.{get_or}
+use Rattle.std.specs.Prelude.{is_some}
 use Rattle.sets.specs.Sets.{In}
 use Rattle.night.specs.Night.{Night, node_of, link_price}
 use Rattle.night.specs.Kinds.{is_child}
 use Rattle.night.specs.Promised.{Promised}
 use Rattle.model.specs.Choice.{Choice, Admissible, AllHave, handed, total, Earlier, Least, LeastThere}
-use Rattle.model.specs.Dp.{subjects_of, handed_on, no_row, best_child, cost_rows, best_last, chosen}
+use Rattle.model.specs.Dp.{subjects_of, least_of, lowest_of, handed_on, no_row, best_child, cost_rows, best_last, chosen}
 use Rattle.model.proofs.Parents.{root_there, child_lower}
 use Rattle.model.proofs.Lowest.{Found, best_found, found_some}
 use Rattle.model.proofs.Follows.{chosen_follows}
@@ -34,20 +35,20 @@ module _ (N : Night) (sound : Promised N) (some : AllHave N) where
   last = root_there N sound
 
   -- a search among a node's subjects finds one
-  child_there : (k s : ℕ) → k < n → (best_child N (cost_rows N) k s).found ≡ true
+  child_there : (k s : ℕ) → k < n → is_some (best_child N (cost_rows N) k s) ≡ true
   child_there k s l =
       let w = subject_some N sound k l (some k l) in
       found_some w.0 (child_found N sound k l s) (subject_low N sound k l w.0 w.1) w.1
 
-  last_there : (best_last N (cost_rows N)).found ≡ true
+  last_there : is_some (best_last N (cost_rows N)) ≡ true
   last_there =
       let w = subject_some N sound (n - 1) last (some (n - 1) last) in
       found_some w.0 (last_found N) (subject_low N sound (n - 1) last w.0 w.1) w.1
 
-  last_chosen : c (n - 1) ≡ (best_last N (cost_rows N)).lowest
+  last_chosen : c (n - 1) ≡ lowest_of (best_last N (cost_rows N))
   last_chosen = (chosen_follows N sound).last
 
-  child_chosen : (i k : ℕ) → i < n → is_child (node_of N i) k ≡ true → c k ≡ (best_child N (cost_rows N) k (c i)).lowest
+  child_chosen : (i k : ℕ) → i < n → is_child (node_of N i) k ≡ true → c k ≡ lowest_of (best_child N (cost_rows N) k (c i))
   child_chosen i k l e = (chosen_follows N sound).given i k (omega arith) l e
 
   -- every subject is one of its node's
@@ -79,10 +80,10 @@ module _ (N : Night) (sound : Promised N) (some : AllHave N) where
       rw (child_chosen i k l e) (sym ((child_found N sound k h (c i)).cost (child_there k (c i) h)))
 
   -- the last node's least cost is the total
-  pub chosen_total : total N (λ i. get_or (chosen N) i 0) ≡ (best_last N (cost_rows N)).least
+  pub chosen_total : total N (λ i. get_or (chosen N) i 0) ≡ least_of (best_last N (cost_rows N))
   unfolding entry_at
   chosen_total =
-      let e : cost_of N (n - 1) (c (n - 1)) + 0 * link_price N (c (n - 1)) 0 ≡ (best_last N (cost_rows N)).least = rw last_chosen ((last_found N).cost last_there) in
+      let e : cost_of N (n - 1) (c (n - 1)) + 0 * link_price N (c (n - 1)) 0 ≡ least_of (best_last N (cost_rows N)) = rw last_chosen ((last_found N).cost last_there) in
       omega (arith, last_is N sound c chosen_in child_exact)
 
   module _ (d : Choice) (A : Admissible N d) where

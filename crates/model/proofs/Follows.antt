@@ -16,7 +16,7 @@ use Rattle.night.specs.Night.{Night, node_of}
 use Rattle.night.specs.Kinds.{uses_left, uses_right, is_child}
 use Rattle.night.specs.Promised.{Promised}
 use Rattle.night.proofs.Children.{is-child}
-use Rattle.model.specs.Dp.{best_child, cost_rows, give_child, give_left, give_both, give_down, best_last, chosen_last, chosen}
+use Rattle.model.specs.Dp.{lowest_of, best_child, cost_rows, give_child, give_left, give_both, give_down, best_last, chosen_last, chosen}
 use Rattle.model.proofs.Lowest.{not_holds}
 use Rattle.model.proofs.Parents.{child_left, child_right, child_lower, one_parent}
 
@@ -48,7 +48,7 @@ module _ (N : Night) (sound : Promised N) (rows : List (List ℕ)) where
     unfolding give_left give_child
     left_long = go (uses_left v.kind)
       where
-        go : (a : Bool) → length (if a then set c v.left (best_child N rows v.left (get_or c i 0)).lowest else c) ≡ 64
+        go : (a : Bool) → length (if a then set c v.left (lowest_of (best_child N rows v.left (get_or c i 0))) else c) ≡ 64
         go true = length-set c _ _ ∙ long
         go false = long
 
@@ -57,7 +57,7 @@ module _ (N : Night) (sound : Promised N) (rows : List (List ℕ)) where
     both_long = go (uses_right v.kind)
       where
         go : (b : Bool)
-            → length (if b then set (give_left N rows i c) v.right (best_child N rows v.right (get_or (give_left N rows i c) i 0)).lowest else give_left N rows i c) ≡ 64
+            → length (if b then set (give_left N rows i c) v.right (lowest_of (best_child N rows v.right (get_or (give_left N rows i c) i 0))) else give_left N rows i c) ≡ 64
         go true = length-set (give_left N rows i c) _ _ ∙ left_long
         go false = left_long
 
@@ -66,7 +66,7 @@ module _ (N : Night) (sound : Promised N) (rows : List (List ℕ)) where
     unfolding give_left give_child
     left_other j h = go (uses_left v.kind) h
       where
-        go : (a : Bool) → (a ≡ true → j ≡ v.left → ⊥) → get_or (if a then set c v.left (best_child N rows v.left (get_or c i 0)).lowest else c) j 0 ≡ get_or c j 0
+        go : (a : Bool) → (a ≡ true → j ≡ v.left → ⊥) → get_or (if a then set c v.left (lowest_of (best_child N rows v.left (get_or c i 0))) else c) j 0 ≡ get_or c j 0
         go true h = get_or-set_other c v.left j _ 0 (h refl)
         go false h = refl
 
@@ -76,7 +76,7 @@ module _ (N : Night) (sound : Promised N) (rows : List (List ℕ)) where
     both_other j p q = go (uses_right v.kind) q ∙ left_other j p
       where
         go : (b : Bool) → (b ≡ true → j ≡ v.right → ⊥)
-            → get_or (if b then set (give_left N rows i c) v.right (best_child N rows v.right (get_or (give_left N rows i c) i 0)).lowest else give_left N rows i c) j 0
+            → get_or (if b then set (give_left N rows i c) v.right (lowest_of (best_child N rows v.right (get_or (give_left N rows i c) i 0))) else give_left N rows i c) j 0
             ≡ get_or (give_left N rows i c) j 0
         go true h = get_or-set_other (give_left N rows i c) v.right j _ 0 (h refl)
         go false h = refl
@@ -85,7 +85,7 @@ module _ (N : Night) (sound : Promised N) (rows : List (List ℕ)) where
     not_given j e = both_other j (not_left v j e) (not_right v j e)
 
     -- each child gets its subject
-    left_given : uses_left v.kind ≡ true → get_or (give_both N rows i c) v.left 0 ≡ (best_child N rows v.left (get_or c i 0)).lowest
+    left_given : uses_left v.kind ≡ true → get_or (give_both N rows i c) v.left 0 ≡ lowest_of (best_child N rows v.left (get_or c i 0))
     unfolding give_both give_left give_child
     left_given u = rw u (go (uses_right v.kind) (λ r e. (sound.node i l).children_differ r (sym e)))
       where
@@ -93,32 +93,32 @@ module _ (N : Night) (sound : Promised N) (rows : List (List ℕ)) where
         h = omega (arith, (sound.node i l).left_lower u, sound.counts.nodes_most)
 
         given : List ℕ
-        given = set c v.left (best_child N rows v.left (get_or c i 0)).lowest
+        given = set c v.left (lowest_of (best_child N rows v.left (get_or c i 0)))
 
-        here : get_or given v.left 0 ≡ (best_child N rows v.left (get_or c i 0)).lowest
+        here : get_or given v.left 0 ≡ lowest_of (best_child N rows v.left (get_or c i 0))
         here = get_or-set_same c v.left _ 0 h
 
         go : (b : Bool) → (b ≡ true → v.left ≡ v.right → ⊥)
-            → get_or (if b then set given v.right (best_child N rows v.right (get_or given i 0)).lowest else given) v.left 0
-            ≡ (best_child N rows v.left (get_or c i 0)).lowest
+            → get_or (if b then set given v.right (lowest_of (best_child N rows v.right (get_or given i 0))) else given) v.left 0
+            ≡ lowest_of (best_child N rows v.left (get_or c i 0))
         go true d = get_or-set_other given v.right v.left _ 0 (d refl) ∙ here
         go false d = here
 
-    right_given : uses_right v.kind ≡ true → get_or (give_both N rows i c) v.right 0 ≡ (best_child N rows v.right (get_or c i 0)).lowest
+    right_given : uses_right v.kind ≡ true → get_or (give_both N rows i c) v.right 0 ≡ lowest_of (best_child N rows v.right (get_or c i 0))
     unfolding give_both give_child
     right_given u =
         rw u
         (get_or-set_same (give_left N rows i c) v.right _ 0 (omega (arith, left_long, (sound.node i l).right_lower u, sound.counts.nodes_most))
         ∙ rw (left_other i (λ w e. omega (arith, (sound.node i l).left_lower w))) refl)
 
-    both_given : (k : ℕ) → is_child v k ≡ true → get_or (give_both N rows i c) k 0 ≡ (best_child N rows k (get_or c i 0)).lowest
+    both_given : (k : ℕ) → is_child v k ≡ true → get_or (give_both N rows i c) k 0 ≡ lowest_of (best_child N rows k (get_or c i 0))
     both_given k e = ⊎_elim (λ w. rw w.1 at (left_given w.0)) (λ w. rw w.1 at (right_given w.0)) (is-child v k e)
 
   -- the nodes from m on have given their children's subjects
   pub record Follows (m : ℕ) (c : List ℕ) : Type 0 where
     pub long : length c ≡ 64
-    pub last : get_or c (N.header.nodes - 1) 0 ≡ (best_last N rows).lowest
-    pub given : (j k : ℕ) → m ≤ j → j < N.header.nodes → is_child (node_of N j) k ≡ true → get_or c k 0 ≡ (best_child N rows k (get_or c j 0)).lowest
+    pub last : get_or c (N.header.nodes - 1) 0 ≡ lowest_of (best_last N rows)
+    pub given : (j k : ℕ) → m ≤ j → j < N.header.nodes → is_child (node_of N j) k ≡ true → get_or c k 0 ≡ lowest_of (best_child N rows k (get_or c j 0))
 
   follow_step : (i : ℕ) (c : List ℕ) → i < n → Follows (suc i) c → Follows i (give_both N rows i c)
   follow_step i c l F =
@@ -132,10 +132,10 @@ module _ (N : Night) (sound : Promised N) (rows : List (List ℕ)) where
       kept : (j : ℕ) → i ≤ j → j < n → get_or (give_both N rows i c) j 0 ≡ get_or c j 0
       kept j h g = not_given i l c F.long j (not_holds (is_child (node_of N i) j) (λ e. omega (arith, child_lower N sound i j l e)))
 
-      here : (j k : ℕ) → i ≡ j → is_child (node_of N j) k ≡ true → get_or (give_both N rows i c) k 0 ≡ (best_child N rows k (get_or (give_both N rows i c) j 0)).lowest
+      here : (j k : ℕ) → i ≡ j → is_child (node_of N j) k ≡ true → get_or (give_both N rows i c) k 0 ≡ lowest_of (best_child N rows k (get_or (give_both N rows i c) j 0))
       here j k q e = rw (← q) (rw (kept i (omega arith) l) (both_given i l c F.long k (rw (← q) at e)))
 
-      later : (j k : ℕ) → i < j → j < n → is_child (node_of N j) k ≡ true → get_or (give_both N rows i c) k 0 ≡ (best_child N rows k (get_or (give_both N rows i c) j 0)).lowest
+      later : (j k : ℕ) → i < j → j < n → is_child (node_of N j) k ≡ true → get_or (give_both N rows i c) k 0 ≡ lowest_of (best_child N rows k (get_or (give_both N rows i c) j 0))
       later j k q g e =
           rw
           (kept j (omega arith) g, not_given i l c F.long k (not_holds (is_child (node_of N i) k) (λ p. one_parent N sound i j k l g p e (λ z. omega arith))))

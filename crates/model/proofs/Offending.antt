@@ -20,11 +20,10 @@ use Rattle.night.specs.Kinds.{attribute, visible}
 use Rattle.night.specs.Promised.{Promised}
 use Rattle.night.proofs.Visible.{OfOperand, at_operand, step_uses_left, visible_below, reads_operand}
 use Rattle.model.specs.declared.Table.{Table}
-use Rattle.model.specs.declared.Standing.TheVariants.{Out}
 use Rattle.model.specs.Ties.{Classes}
 use Rattle.model.specs.Tables.{shown, least_view, tests, table_of, TiedAt}
 use Rattle.model.specs.Candidates.{clear_offends, sealed_offends, tied_offends, ClearHolds, SealedHolds, TiedHolds}
-use Rattle.model.specs.Reasons.{looked_at, offending, Holds, Looked, LowestAlone, Split, FirstTied, Named, OutExactly}
+use Rattle.model.specs.Reasons.{looked_at, offending, out, Holds, Looked, LowestAlone, Split, FirstTied, Named, OutExactly}
 use Rattle.model.proofs.Chains.{chain_join, chain_back, in_word}
 use Rattle.model.proofs.Lowest.{not_below}
 use Rattle.model.proofs.Meaning.{tied_meaning}
@@ -236,5 +235,5 @@ out_exactly N sound i l s P E k c set = (
       (w.0, rw w.1 (looked_named N sound i l s P E k c w.0.looked w.0.fails)),
   λ w.
       first_named N i P E k c w.0
-      ∙ ap (Out k c) (named_once c w.0.fails (looked_named N sound i l s P E k c w.0.looked w.0.fails) w.1),
+      ∙ ap (out k c) (named_once c w.0.fails (looked_named N sound i l s P E k c w.0.looked w.0.fails) w.1),
 )

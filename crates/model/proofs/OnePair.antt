@@ -14,7 +14,7 @@ use Rattle.sets.specs.Sets.{union, unions}
 use Rattle.night.specs.declared.Node.{Node}
 use Rattle.night.specs.Night.{Night, no_node, grant_of, node_of, pair_of}
 use Rattle.night.specs.Kinds.{uses_right, its_pair, both_of, pairs_read, reads, read_together, visible_after}
-use Rattle.night.specs.Views.{grant_on, view_on, clear_on, sealed_on, clear_of, sealed_of}
+use Rattle.night.specs.Views.{grant_on, view_on, clear_on, sealed_on}
 use Rattle.model.specs.Tables.{tests}
 use Rattle.model.specs.OnePair.{as_join, joined_at, OnePair}
 use Rattle.model.proofs.NightsAlike.{AlikeNodes, AlikeNights, headers_self, alike_same}

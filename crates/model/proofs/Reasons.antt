@@ -7,20 +7,20 @@ use mathlib.Core.Logic.{inl, inr}
 use native.Mathlib.Omega.{arith}
 use lib.Dec.{eqb}
 use lib.ListN.{get_or}
-use borrow.Author.Tests.{eqb-true, eqb-false, eq-eqb, ne_eqb, lt-ltb, le-ltb}
-use Rattle.std.specs.Prelude.{if◌then◌else◌}
+use borrow.Author.Tests.{eqb-true, eqb-false, eq-eqb, ne_eqb, lt-ltb}
+use Rattle.std.specs.Prelude.{Some, None, if◌then◌else◌}
 use Rattle.laws.specs.First.{first, somewhere}
 use Rattle.laws.specs.Trials.{Trial, Says, answers, refuses, verdict}
 use Rattle.laws.proofs.Cases.{clash}
-use Rattle.laws.proofs.First.{somewhere_false, somewhere_true}
+use Rattle.laws.proofs.First.{first_found, none_before, nowhere, somewhere_false, somewhere_true}
 use Rattle.night.specs.Night.{Night, node_of}
-use Rattle.sets.specs.Sets.{lowest}
+use Rattle.sets.specs.Sets.{union, minus, lowest}
 use Rattle.night.specs.Kinds.{uses_right, attribute}
 use Rattle.model.specs.declared.Table.{Table}
-use Rattle.model.specs.declared.Standing.{Standing}
-use Rattle.model.specs.declared.Standing.TheVariants.{Candidate, Out}
+use Rattle.model.specs.declared.Out.{Out}
 use Rattle.model.specs.Candidates.{clear_offends, sealed_offends, tied_offends, May}
-use Rattle.model.specs.Reasons.{of_left, of_right, of_result, looked_at, conditions, reasons, offending, named, standing_by, standing, Holds, Looked, FirstOut, CandidateExactly}
+use Rattle.model.specs.OneTest.{splits}
+use Rattle.model.specs.Reasons.{of_left, of_right, of_result, looked_at, conditions, reasons, offending, Standing, out, named, standing_by, standing, Holds, Looked, FirstOut, CandidateExactly}
 use Rattle.model.proofs.Lowest.{not_below}
 use Rattle.model.proofs.Sees.{clear_lies, sealed_lies, tied_lies}
 
@@ -29,8 +29,14 @@ all_hold : {t : Table} {P E : ℕ} → May t P E → (c : ℕ) → Holds c t P E
 all_hold {t} {P} {E} m c = (λ e. (clear_lies t P E).0 m.first, λ e. (sealed_lies t P E).0 m.second, λ e. (tied_lies t P E).0 m.third)
 
 -- a candidate is not out
-pub never_out : {k c set : ℕ} → Candidate ≡ Out k c set → ⊥
-never_out e = let z : ◌≡◌ {A = ℕ} 0 1 = cc in omega arith
+pub never_out : {k c set : ℕ} → ◌≡◌ {A = Standing} None (out k c set) → ⊥
+never_out e = cc
+
+-- what is out alike is so by the same table, condition and set
+pub same_out : {k c set k' c' set' : ℕ} → out k c set ≡ out k' c' set' → (k ≡ k') × (c ≡ c') × (set ≡ set')
+same_out {k} {c} {set} {k'} {c'} {set'} e =
+    let same : ◌≡◌ {A = Out} (record { table = k; condition = c; set = set }) (record { table = k'; condition = c'; set = set' }) = cc in
+    (ap (λ (o : Out). o.table) same, ap (λ (o : Out). o.condition) same, ap (λ (o : Out). o.set) same)
 
 -- the conditions of table k, and then the rest of a row: one of them stops it, or all hold and the rest is tried
 pub data Tried (k : ℕ) (t : Table) (P E : ℕ) (rest v : Says (Unit {0})) : Type 0 where
@@ -115,18 +121,16 @@ module _ (N : Night) (i P E : ℕ) where
           out_first of_left c (record { looked = inl refl; fails = fails; tables_before = before 1 (λ l. absurd (omega arith)) (λ l. absurd (omega arith)) (λ l. absurd (omega arith)); conditions_before = lower }) q
 
   -- the same of the standing
-  pub stands_out : (k c set : ℕ) → standing N i P E ≡ Out k c set → FirstOut N i P E k c × (set ≡ offending (looked_at N i k) P E c)
+  pub stands_out : (k c set : ℕ) → standing N i P E ≡ out k c set → FirstOut N i P E k c × (set ≡ offending (looked_at N i k) P E c)
   unfolding standing
   stands_out k c set e = go stands
     where
       go : Stands (verdict (reasons N i P E) tt) → FirstOut N i P E k c × (set ≡ offending (looked_at N i k) P E c)
       go (in_all l m r q) = absurd (never_out (sym (ap (named (looked_at N i) P E) q) ∙ e))
       go (out_first k' c' w q) =
-          let told : Out k' c' (offending (looked_at N i k') P E c') ≡ Out k c set = sym (ap (named (looked_at N i) P E) q) ∙ e in
-          let table : k' ≡ k = cc in
-          let condition : c' ≡ c = cc in
-          let named_set : offending (looked_at N i k') P E c' ≡ set = cc in
-          rw (← table, ← condition) (w, sym named_set)
+          let told : out k' c' (offending (looked_at N i k') P E c') ≡ out k c set = sym (ap (named (looked_at N i) P E) q) ∙ e in
+          let same = same_out told in
+          rw (← same.0, ← same.1) (w, sym same.2)
 
   -- one reason is not before another that is the first
   not_before : (k c k' c' : ℕ) → FirstOut N i P E k c → FirstOut N i P E k' c' → (k' ≤ k) × (k ≡ k' → c' ≤ c)
@@ -142,18 +146,18 @@ module _ (N : Night) (i P E : ℕ) where
       let table : k ≡ k' = omega (arith, one.0, other.0) in
       (table, omega (arith, one.1 table, other.1 (sym table)))
 
-  pub first_named : (k c : ℕ) → FirstOut N i P E k c → standing N i P E ≡ Out k c (offending (looked_at N i k) P E c)
+  pub first_named : (k c : ℕ) → FirstOut N i P E k c → standing N i P E ≡ out k c (offending (looked_at N i k) P E c)
   unfolding standing
   first_named k c w = go stands
     where
-      go : Stands (verdict (reasons N i P E) tt) → named (looked_at N i) P E (verdict (reasons N i P E) tt) ≡ Out k c (offending (looked_at N i k) P E c)
+      go : Stands (verdict (reasons N i P E) tt) → named (looked_at N i) P E (verdict (reasons N i P E) tt) ≡ out k c (offending (looked_at N i k) P E c)
       go (in_all l m r q) = absurd (w.fails (none_fails l m r k c w.looked))
       go (out_first k' c' w' q) =
           let same = first_once k c k' c' w w' in
           rw (same.0, same.1) (ap (named (looked_at N i) P E) q)
 
   -- a subject is not out exactly when it is a candidate
-  stands_in : standing N i P E ≡ Candidate → May L P E × (uses_right (node_of N i).kind ≡ true → May M P E) × May R P E
+  stands_in : standing N i P E ≡ None → May L P E × (uses_right (node_of N i).kind ≡ true → May M P E) × May R P E
   unfolding standing
   stands_in e = go stands
     where
@@ -161,11 +165,11 @@ module _ (N : Night) (i P E : ℕ) where
       go (in_all l m r q) = (l, m, r)
       go (out_first k c w q) = absurd (never_out (sym e ∙ ap (named (looked_at N i) P E) q))
 
-  in_stands : May L P E → (uses_right (node_of N i).kind ≡ true → May M P E) → May R P E → standing N i P E ≡ Candidate
+  in_stands : May L P E → (uses_right (node_of N i).kind ≡ true → May M P E) → May R P E → standing N i P E ≡ None
   unfolding standing
   in_stands l m r = go stands
     where
-      go : Stands (verdict (reasons N i P E) tt) → named (looked_at N i) P E (verdict (reasons N i P E) tt) ≡ Candidate
+      go : Stands (verdict (reasons N i P E) tt) → named (looked_at N i) P E (verdict (reasons N i P E) tt) ≡ None
       go (in_all l' m' r' q) = ap (named (looked_at N i) P E) q
       go (out_first k c w q) = absurd (w.fails (none_fails l m r k c w.looked))
 
@@ -178,33 +182,44 @@ candidate_standing N i P E step = (
   λ c. in_stands N i P E c.left c.right c.result,
 )
 
--- one table: what it takes for each condition to be the first to fail
+-- one table: what it takes for each condition to be the first to fail, in sets
 module _ (k : ℕ) (t : Table) (P E : ℕ) where
-  pub by_first : (clear_offends t P E ≡ 0 → ⊥) → standing_by k t P E ≡ Out k 1 (attribute (lowest 64 (clear_offends t P E)))
-  unfolding standing_by conditions verdict offending
-  by_first some = rw (ne_eqb (clear_offends t P E) 0 some) refl
+  abbrev first_set : ℕ
+  first_set = minus (union t.clear t.tested) P
 
-  pub by_second : clear_offends t P E ≡ 0 → (sealed_offends t P E ≡ 0 → ⊥) → standing_by k t P E ≡ Out k 2 (attribute (lowest 64 (sealed_offends t P E)))
-  unfolding standing_by conditions verdict offending
-  by_second none some = rw (eq-eqb (clear_offends t P E) 0 none, ne_eqb (sealed_offends t P E) 0 some) refl
+  abbrev second_set : ℕ
+  second_set = minus (union t.sealed t.hidden) (union P E)
 
-  pub by_third : clear_offends t P E ≡ 0 → sealed_offends t P E ≡ 0 → first (tied_offends t P E) 64 < 64
-      → standing_by k t P E ≡ Out k 3 (get_or t.tied (first (tied_offends t P E) 64) 0)
-  unfolding standing_by conditions verdict offending somewhere
-  by_third none nor low = rw (eq-eqb (clear_offends t P E) 0 none, eq-eqb (sealed_offends t P E) 0 nor, lt-ltb (first (tied_offends t P E) 64) 64 low) refl
+  pub by_first : (first_set ≡ 0 → ⊥) → standing_by k t P E ≡ out k 1 (attribute (lowest 64 first_set))
+  unfolding standing_by conditions verdict offending clear_offends
+  by_first some = rw (ne_eqb first_set 0 some) refl
 
-  pub by_none : clear_offends t P E ≡ 0 → sealed_offends t P E ≡ 0 → 64 ≤ first (tied_offends t P E) 64 → standing_by k t P E ≡ Candidate
-  unfolding standing_by conditions verdict somewhere
-  by_none none nor high = rw (eq-eqb (clear_offends t P E) 0 none, eq-eqb (sealed_offends t P E) 0 nor, le-ltb (first (tied_offends t P E) 64) 64 high) refl
+  pub by_second : first_set ≡ 0 → (second_set ≡ 0 → ⊥) → standing_by k t P E ≡ out k 2 (attribute (lowest 64 second_set))
+  unfolding standing_by conditions verdict offending clear_offends sealed_offends
+  by_second none some = rw (eq-eqb first_set 0 none, ne_eqb second_set 0 some) refl
+
+  -- j is the lowest whose tied set offends
+  pub by_third : (set : ℕ) → first_set ≡ 0 → second_set ≡ 0
+      → (j : ℕ) × (j < 64) × (set ≡ get_or t.tied j 0) × (splits set P E ≡ true) × ((i : ℕ) → i < j → splits (get_or t.tied i 0) P E ≡ false)
+      → standing_by k t P E ≡ out k 3 set
+  unfolding standing_by conditions verdict offending somewhere clear_offends sealed_offends tied_offends splits
+  by_third set none nor w =
+      let offends = rw w.2 at w.3 in
+      let its : first (tied_offends t P E) 64 ≡ w.0 = first_found _ w.0 64 (none_before _ w.0 w.4) offends w.1 in
+      rw w.2 (rw (eq-eqb first_set 0 none, eq-eqb second_set 0 nor, its, lt-ltb w.0 64 w.1, its) refl)
+
+  pub by_none : first_set ≡ 0 → second_set ≡ 0 → ((j : ℕ) → j < 64 → splits (get_or t.tied j 0) P E ≡ false) → standing_by k t P E ≡ None
+  unfolding standing_by conditions verdict clear_offends sealed_offends tied_offends splits
+  by_none none nor whole = rw (eq-eqb first_set 0 none, eq-eqb second_set 0 nor, nowhere (tied_offends t P E) 64 whole) refl
 
 -- the step's standing is that by its left operand's least view, or else by the right one's, or else by the result
 abbrev pub or_else : Standing → Standing → Standing
-or_else Candidate later = later
-or_else (Out k c set) later = Out k c set
+or_else None later = later
+or_else (Some o) later = Some o
 
-or_candidate : (s : Standing) → or_else s Candidate ≡ s
-or_candidate Candidate = refl
-or_candidate (Out k c set) = refl
+or_candidate : (s : Standing) → or_else s None ≡ s
+or_candidate None = refl
+or_candidate (Some o) = refl
 
 row_named : (f : ℕ → Table) (k P E : ℕ) (ys : List Trial)
     → named f P E (verdict (conditions k (f k) P E ++ ys) tt) ≡ or_else (standing_by k (f k) P E) (named f P E (verdict ys tt))
@@ -223,7 +238,7 @@ row_named f k P E ys = go (eqb (clear_offends (f k) P E) 0) (eqb (sealed_offends
 pub table_by_table : (N : Night) (i P E : ℕ)
     → standing N i P E
     ≡ or_else (standing_by of_left (looked_at N i of_left) P E)
-    (or_else (if uses_right (node_of N i).kind then standing_by of_right (looked_at N i of_right) P E else Candidate) (standing_by of_result (looked_at N i of_result) P E))
+    (or_else (if uses_right (node_of N i).kind then standing_by of_right (looked_at N i of_right) P E else None) (standing_by of_result (looked_at N i of_result) P E))
 unfolding verdict conditions standing reasons
 table_by_table N i P E =
     row_named (looked_at N i) of_left P E ((if uses_right (node_of N i).kind then conditions of_right (looked_at N i of_right) P E else []) ++ conditions of_result (looked_at N i of_result) P E)
@@ -233,6 +248,6 @@ table_by_table N i P E =
     result = row_named (looked_at N i) of_result P E [] ∙ or_candidate (standing_by of_result (looked_at N i of_result) P E)
 
     go : (b : Bool) → named (looked_at N i) P E (verdict ((if b then conditions of_right (looked_at N i of_right) P E else []) ++ conditions of_result (looked_at N i of_result) P E) tt)
-        ≡ or_else (if b then standing_by of_right (looked_at N i of_right) P E else Candidate) (standing_by of_result (looked_at N i of_result) P E)
+        ≡ or_else (if b then standing_by of_right (looked_at N i of_right) P E else None) (standing_by of_result (looked_at N i of_result) P E)
     go true = row_named (looked_at N i) of_right P E (conditions of_result (looked_at N i of_result) P E) ∙ ap (or_else (standing_by of_right (looked_at N i of_right) P E)) result
     go false = result

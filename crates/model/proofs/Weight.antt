@@ -8,7 +8,7 @@ use native.Mathlib.Omega.{arith}
 use lib.Dec.{ltb, eqb}
 use lib.ListN.{get_or}
 use borrow.Author.Tests.{ltb-true, ltb-false, eqb-false}
-use Rattle.std.specs.Prelude.{if◌then◌else◌}
+use Rattle.std.specs.Prelude.{is_some, if◌then◌else◌}
 use Rattle.laws.specs.Upwards.{upwards}
 use Rattle.laws.proofs.Sums.{sum_last, sum_le, sum_tight, sum_add, sum_const}
 use Rattle.laws.proofs.Upwards.{upwards_past, agrees_none}
@@ -19,7 +19,7 @@ use Rattle.night.specs.Kinds.{uses_left, uses_right, is_child}
 use Rattle.night.specs.Promised.{Promised}
 use Rattle.night.proofs.Visible.{step_uses_left}
 use Rattle.model.specs.Choice.{Choice, Admissible, handed, cost_at, total}
-use Rattle.model.specs.Dp.{subjects_of, handed_on, best_of, no_row, best_child, row_step, cost_rows}
+use Rattle.model.specs.Dp.{subjects_of, least_of, lowest_of, handed_on, best_of, no_row, best_child, row_step, cost_rows}
 use Rattle.model.proofs.Parents.{children, children_le, child_lower, once_below, once}
 use Rattle.model.proofs.Lowest.{Found, best_found, found_some}
 use Rattle.model.proofs.CostRows.{paid, cost_of, least_child, cost_children, row_known, subject-there, subject_in, cost_is, cost_else, child_found, child_least}
@@ -30,15 +30,15 @@ blank_row s = agrees_none {A = ℕ} (λ before i. 0) 0 16 s
 
 -- the cheapest entry of node k's row
 lightest : Night → ℕ → ℕ
-lightest N k = (best_of N (get_or (cost_rows N) k no_row) (subjects_of N k) 0 0 16).least
+lightest N k = least_of (best_of N (get_or (cost_rows N) k no_row) (subjects_of N k) 0 0 16)
 
 -- what is found costs no more than all could
 pub best_most : (N : Night) (row : List ℕ) (among size s k bound : ℕ) → ((t : ℕ) → t < k → In t among → handed_on N row size s t ≤ bound)
-    → (best_of N row among size s k).least ≤ bound
-best_most N row among size s k bound h = go (best_of N row among size s k).found refl (best_found N row among size s k)
+    → least_of (best_of N row among size s k) ≤ bound
+best_most N row among size s k bound h = go (is_some (best_of N row among size s k)) refl (best_found N row among size s k)
   where
-    go : (b : Bool) → (best_of N row among size s k).found ≡ b → Found (handed_on N row size s) among k (best_of N row among size s k)
-        → (best_of N row among size s k).least ≤ bound
+    go : (b : Bool) → is_some (best_of N row among size s k) ≡ b → Found (handed_on N row size s) among k (best_of N row among size s k)
+        → least_of (best_of N row among size s k) ≤ bound
     go true e F = omega (arith, h _ (F.below e) (F.there e), F.cost e)
     go false e F = omega (arith, F.nothing e)
 
@@ -102,13 +102,13 @@ module _ (N : Night) (sound : Promised N) where
 
   child_most : (k s : ℕ) → k < n → s < N.header.subjects → least_child N k s ≤ lightest N k + 1000000000
   unfolding least_child lightest
-  child_most k s l h = go (best_child N (cost_rows N) k s).found refl
+  child_most k s l h = go (is_some (best_child N (cost_rows N) k s)) refl
     where
-      go : (b : Bool) → (best_child N (cost_rows N) k s).found ≡ b
-          → (best_child N (cost_rows N) k s).least ≤ (best_of N (get_or (cost_rows N) k no_row) (subjects_of N k) 0 0 16).least + 1000000000
+      go : (b : Bool) → is_some (best_child N (cost_rows N) k s) ≡ b
+          → least_of (best_child N (cost_rows N) k s) ≤ least_of (best_of N (get_or (cost_rows N) k no_row) (subjects_of N k) 0 0 16) + 1000000000
       go true e =
           let F = child_found N sound k l s in
-          let t = (best_of N (get_or (cost_rows N) k no_row) (subjects_of N k) 0 0 16).lowest in
+          let t = lowest_of (best_of N (get_or (cost_rows N) k no_row) (subjects_of N k) 0 0 16) in
           let f = found_some _ (lightest_found k) (F.below e) (F.there e) in
           let g = (lightest_found k).there f in
           omega (arith, child_least N sound k l s t g, (lightest_found k).cost f, link_most k t s l (subject-there N sound k l t g) h)
@@ -137,10 +137,10 @@ module _ (N : Night) (sound : Promised N) where
 
   lightest_most : (i : ℕ) → i < n → lightest N i ≤ children N (lightest N) i + 2001000000
   unfolding lightest
-  lightest_most i l = go (best_of N (get_or (cost_rows N) i no_row) (subjects_of N i) 0 0 16).found refl
+  lightest_most i l = go (is_some (best_of N (get_or (cost_rows N) i no_row) (subjects_of N i) 0 0 16)) refl
     where
-      go : (b : Bool) → (best_of N (get_or (cost_rows N) i no_row) (subjects_of N i) 0 0 16).found ≡ b
-          → (best_of N (get_or (cost_rows N) i no_row) (subjects_of N i) 0 0 16).least ≤ children N (lightest N) i + 2001000000
+      go : (b : Bool) → is_some (best_of N (get_or (cost_rows N) i no_row) (subjects_of N i) 0 0 16) ≡ b
+          → least_of (best_of N (get_or (cost_rows N) i no_row) (subjects_of N i) 0 0 16) ≤ children N (lightest N) i + 2001000000
       go true e = omega (arith, entry_most i _ l ((lightest_found i).there e), (lightest_found i).cost e)
       go false e = omega (arith, (lightest_found i).nothing e)
 

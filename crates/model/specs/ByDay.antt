@@ -1,5 +1,5 @@
 -- Who may run a step on which day, in a small night said by numbers.
-use Rattle.std.specs.Prelude.{ℕ, ◌≡◌, List, [], ◌∷◌, map}
+use Rattle.std.specs.Prelude.{◌≡◌, [], ◌∷◌, map}
 use Rattle.night.specs.Night.{Night}
 use Rattle.night.specs.Days.{on_day}
 use Rattle.night.specs.ByDay.{granted}

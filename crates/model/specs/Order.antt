@@ -1,5 +1,5 @@
 -- Two choices of the same total: the list of subjects is read from the last node to the first. What they cost, and the plan for one of them.
-use Rattle.std.specs.Prelude.{◌≡◌, true, [], ◌∷◌, get_or}
+use Rattle.std.specs.Prelude.{◌≡◌, [], ◌∷◌, Some, get_or}
 use Rattle.night.specs.Night.{Night}
 use Rattle.model.specs.Choice.{Choice, Admissible, Least, total, steps}
 use Rattle.model.specs.Dp.{better}
@@ -44,8 +44,8 @@ pub record SmallPlan : Type 0 where
   pub total_first : total even_night smaller_first ≡ 8
   pub steps_all : steps even_night ≡ 12
   -- as it is worked out: of equally cheap subjects the first one stays, a cheaper one is taken
-  pub first_kept : better (record { found = true; least = 5; lowest = 1 }) 5 2 ≡ record { found = true; least = 5; lowest = 1 }
-  pub cheaper_taken : better (record { found = true; least = 5; lowest = 1 }) 4 2 ≡ record { found = true; least = 4; lowest = 2 }
+  pub first_kept : better (Some (record { least = 5; lowest = 1 })) 5 2 ≡ Some (record { least = 5; lowest = 1 })
+  pub cheaper_taken : better (Some (record { least = 5; lowest = 1 })) 4 2 ≡ Some (record { least = 4; lowest = 2 })
   -- the last node, which has the attribute in clear, seals nothing, since it is the root
   pub root_seals : sealings even_night 2 ≡ 0
   -- opens and seals per node: the leaf seals, the last node opens

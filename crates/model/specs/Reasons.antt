@@ -1,5 +1,5 @@
 -- Why a subject is out of a step: the first condition to fail, over the tables that the step's subject takes and makes.
-use Rattle.std.specs.Prelude.{ℕ, ◌<◌, ◌≤◌, ◌≡◌, true, not, List, [], ◌∷◌, ◌++◌, ◌⊎◌, ◌↔◌, eqb, get_or, if◌then◌else◌}
+use Rattle.std.specs.Prelude.{ℕ, ◌<◌, ◌≤◌, ◌≡◌, true, not, List, [], ◌∷◌, ◌++◌, ◌⊎◌, ◌↔◌, Option, Some, None, eqb, get_or, if◌then◌else◌}
 use Rattle.laws.specs.First.{first, somewhere}
 use Rattle.laws.specs.Trials.{Trial, trial, Says, answers, refuses, verdict}
 use Rattle.sets.specs.Sets.{In, Within, lowest}
@@ -7,10 +7,9 @@ use Rattle.night.specs.Night.{Night, node_of}
 use Rattle.night.specs.Kinds.{uses_right, attribute}
 use Rattle.night.specs.Promised.{Promised}
 use Rattle.model.specs.declared.Table.{Table}
-use Rattle.model.specs.declared.Standing.{Standing}
-use Rattle.model.specs.declared.Standing.TheVariants.{Candidate, Out}
+use Rattle.model.specs.declared.Out.{Out}
 use Rattle.model.specs.Tables.{least_view, table_of}
-use Rattle.model.specs.Candidates.{clear_offends, sealed_offends, tied_offends, Candidate as CandidateBy}
+use Rattle.model.specs.Candidates.{clear_offends, sealed_offends, tied_offends, Candidate}
 
 -- the tables that are looked at, in this order: the left operand's least view, the right one's, the result
 abbrev pub of_left : ℕ
@@ -51,10 +50,18 @@ offending t P E c =
     if eqb c 2 then attribute (lowest 64 (sealed_offends t P E)) else
     get_or t.tied (first (tied_offends t P E) 64) 0
 
+-- how a subject stands: it is a candidate, or out
+abbrev pub Standing : Type 0
+Standing = Option Out
+
+-- out by condition c of table k, with the set that offends
+abbrev pub out : ℕ → ℕ → ℕ → Standing
+out k c set = Some (record { table = k; condition = c; set = set })
+
 -- the first to fail puts the subject out, and is named by table, condition and set; where none fails the subject is a candidate
 abbrev pub named : (ℕ → Table) → ℕ → ℕ → Says (Unit {0}) → Standing
-named t P E (answers a) = Candidate
-named t P E (refuses k c) = Out k c (offending (t k) P E c)
+named t P E (answers a) = None
+named t P E (refuses k c) = out k c (offending (t k) P E c)
 
 -- of one table, with its number; the code asks table by table, and that `standing` is the first of these to be out is the law `table_by_table`
 unfoldable pub standing_by : ℕ → Table → ℕ → ℕ → Standing
@@ -120,11 +127,11 @@ Named t P E c set =
 abbrev pub OutExactly : Type 0
 OutExactly =
     (N : Night) → Promised N → (i : ℕ) → i < N.header.nodes → ((node_of N i).kind ≡ 0 → ⊥) → (P E k c set : ℕ)
-    → (standing N i P E ≡ Out k c set) ↔ (FirstOut N i P E k c × Named (looked_at N i k) P E c set)
+    → (standing N i P E ≡ out k c set) ↔ (FirstOut N i P E k c × Named (looked_at N i k) P E c set)
 
 -- a subject is not out exactly when it is a candidate
 abbrev pub CandidateExactly : Type 0
-CandidateExactly = (N : Night) (i P E : ℕ) → ((node_of N i).kind ≡ 0 → ⊥) → (standing N i P E ≡ Candidate) ↔ CandidateBy N i P E
+CandidateExactly = (N : Night) (i P E : ℕ) → ((node_of N i).kind ≡ 0 → ⊥) → (standing N i P E ≡ None) ↔ Candidate N i P E
 
 -- of the result only condition 3 can be the first to fail: what is clear or sealed there was so in an operand's least view
 abbrev pub ResultTied : Type 0

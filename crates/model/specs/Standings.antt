@@ -1,11 +1,10 @@
 -- Small steps, and how subjects stand to them: each table and condition that can be the first to fail, and, where two fail, the earlier one.
-use Rattle.std.specs.Prelude.{ℕ, ◌≡◌, List, [], ◌∷◌}
+use Rattle.std.specs.Prelude.{ℕ, ◌≡◌, List, [], ◌∷◌, None}
 use Rattle.sets.specs.Sets.{union}
 use Rattle.night.specs.declared.Node.{Node}
 use Rattle.night.specs.Night.{Night}
 use Rattle.night.specs.Kinds.{attribute}
-use Rattle.model.specs.declared.Standing.TheVariants.{Candidate, Out}
-use Rattle.model.specs.Reasons.{standing}
+use Rattle.model.specs.Reasons.{standing, out}
 
 -- a set by its members
 abbrev pub these : List ℕ → ℕ
@@ -85,46 +84,46 @@ all_sealed = joins 0 0 0 255
 
 -- behind the step's number stand the attributes that the subject sees in clear, then those that it sees sealed
 pub record Standings : Type 0 where
-  pub candidate : standing in_clear 5 (these (0 ∷ 1 ∷ 2 ∷ 3 ∷ [])) (these (4 ∷ 5 ∷ [])) ≡ Candidate
+  pub candidate : standing in_clear 5 (these (0 ∷ 1 ∷ 2 ∷ 3 ∷ [])) (these (4 ∷ 5 ∷ [])) ≡ None
   -- the left operand's least view: 0 clear, 1 sealed, 1 and 2 tied
-  pub left_1 : standing in_clear 5 (these (1 ∷ 2 ∷ 3 ∷ 4 ∷ 5 ∷ [])) (these (0 ∷ [])) ≡ Out 1 1 (these (0 ∷ []))
-  pub left_2 : standing in_clear 5 (these (0 ∷ 3 ∷ [])) (these (4 ∷ 5 ∷ [])) ≡ Out 1 2 (these (1 ∷ []))
-  pub left_3 : standing in_clear 5 (these (0 ∷ 1 ∷ 3 ∷ [])) (these (2 ∷ 4 ∷ 5 ∷ [])) ≡ Out 1 3 (these (1 ∷ 2 ∷ []))
+  pub left_1 : standing in_clear 5 (these (1 ∷ 2 ∷ 3 ∷ 4 ∷ 5 ∷ [])) (these (0 ∷ [])) ≡ out 1 1 (these (0 ∷ []))
+  pub left_2 : standing in_clear 5 (these (0 ∷ 3 ∷ [])) (these (4 ∷ 5 ∷ [])) ≡ out 1 2 (these (1 ∷ []))
+  pub left_3 : standing in_clear 5 (these (0 ∷ 1 ∷ 3 ∷ [])) (these (2 ∷ 4 ∷ 5 ∷ [])) ≡ out 1 3 (these (1 ∷ 2 ∷ []))
   -- the right one's: 3 clear, 4 and 5 sealed and tied
-  pub right_1 : standing in_clear 5 (these (0 ∷ 1 ∷ 2 ∷ [])) (these (3 ∷ 4 ∷ 5 ∷ [])) ≡ Out 2 1 (these (3 ∷ []))
-  pub right_2 : standing in_clear 5 (these (0 ∷ 1 ∷ 2 ∷ 3 ∷ 4 ∷ [])) 0 ≡ Out 2 2 (these (5 ∷ []))
-  pub right_3 : standing in_clear 5 (these (0 ∷ 1 ∷ 2 ∷ 3 ∷ 4 ∷ [])) (these (5 ∷ [])) ≡ Out 2 3 (these (4 ∷ 5 ∷ []))
+  pub right_1 : standing in_clear 5 (these (0 ∷ 1 ∷ 2 ∷ [])) (these (3 ∷ 4 ∷ 5 ∷ [])) ≡ out 2 1 (these (3 ∷ []))
+  pub right_2 : standing in_clear 5 (these (0 ∷ 1 ∷ 2 ∷ 3 ∷ 4 ∷ [])) 0 ≡ out 2 2 (these (5 ∷ []))
+  pub right_3 : standing in_clear 5 (these (0 ∷ 1 ∷ 2 ∷ 3 ∷ 4 ∷ [])) (these (5 ∷ [])) ≡ out 2 3 (these (4 ∷ 5 ∷ []))
   -- the result: 0 and 3 tied too
-  pub result_3 : standing all_sealed 5 (these (0 ∷ 1 ∷ 2 ∷ [])) (these (3 ∷ 4 ∷ 5 ∷ [])) ≡ Out 3 3 (these (0 ∷ 3 ∷ []))
+  pub result_3 : standing all_sealed 5 (these (0 ∷ 1 ∷ 2 ∷ [])) (these (3 ∷ 4 ∷ 5 ∷ [])) ≡ out 3 3 (these (0 ∷ 3 ∷ []))
   -- one operand: it is the left one, and a right that the kind does not use is not looked at
-  pub one_operand : standing in_clear 1 (these (1 ∷ [])) (these (0 ∷ 2 ∷ [])) ≡ Out 3 3 (these (1 ∷ 2 ∷ []))
-  pub no_right : standing (joins 0 0 0 3) 2 (these (0 ∷ 1 ∷ 2 ∷ [])) 0 ≡ Candidate
+  pub one_operand : standing in_clear 1 (these (1 ∷ [])) (these (0 ∷ 2 ∷ [])) ≡ out 3 3 (these (1 ∷ 2 ∷ []))
+  pub no_right : standing (joins 0 0 0 3) 2 (these (0 ∷ 1 ∷ 2 ∷ [])) 0 ≡ None
   -- 1 before 2, 2 before 3; left before right, right before result
-  pub first_before_second : standing in_clear 5 0 0 ≡ Out 1 1 (these (0 ∷ []))
-  pub second_before_third : standing in_clear 5 (these (0 ∷ 3 ∷ [])) (these (2 ∷ [])) ≡ Out 1 2 (these (1 ∷ []))
-  pub left_before_right : standing in_clear 5 (these (0 ∷ 1 ∷ [])) (these (2 ∷ [])) ≡ Out 1 3 (these (1 ∷ 2 ∷ []))
-  pub right_before_result : standing all_sealed 5 (these (0 ∷ 1 ∷ 2 ∷ 4 ∷ [])) (these (3 ∷ 5 ∷ [])) ≡ Out 2 3 (these (4 ∷ 5 ∷ []))
+  pub first_before_second : standing in_clear 5 0 0 ≡ out 1 1 (these (0 ∷ []))
+  pub second_before_third : standing in_clear 5 (these (0 ∷ 3 ∷ [])) (these (2 ∷ [])) ≡ out 1 2 (these (1 ∷ []))
+  pub left_before_right : standing in_clear 5 (these (0 ∷ 1 ∷ [])) (these (2 ∷ [])) ≡ out 1 3 (these (1 ∷ 2 ∷ []))
+  pub right_before_result : standing all_sealed 5 (these (0 ∷ 1 ∷ 2 ∷ 4 ∷ [])) (these (3 ∷ 5 ∷ [])) ≡ out 2 3 (these (4 ∷ 5 ∷ []))
   -- the lowest attribute, of the visible and the implicit part together: 1 clear and 0 tested in clear; 4 sealed and 0 tested sealed; the same with 5 for 0
-  pub lowest_clear : standing in_clear 8 (these (2 ∷ 3 ∷ 4 ∷ 5 ∷ [])) (these (0 ∷ 1 ∷ [])) ≡ Out 1 1 (these (0 ∷ []))
-  pub lowest_sealed : standing all_sealed 8 (these (1 ∷ [])) 0 ≡ Out 1 2 (these (0 ∷ []))
-  pub lowest_visible : standing (joins 0 5 (these (5 ∷ [])) 255) 8 (these (0 ∷ 2 ∷ 3 ∷ 4 ∷ [])) (these (1 ∷ 5 ∷ [])) ≡ Out 1 1 (these (1 ∷ []))
-  pub lowest_hidden : standing (joins 0 5 0 255) 8 (these (1 ∷ [])) 0 ≡ Out 1 2 (these (4 ∷ []))
-  pub lowest_of_two : standing in_clear 5 (these (0 ∷ 1 ∷ 2 ∷ 3 ∷ [])) 0 ≡ Out 2 2 (these (4 ∷ []))
+  pub lowest_clear : standing in_clear 8 (these (2 ∷ 3 ∷ 4 ∷ 5 ∷ [])) (these (0 ∷ 1 ∷ [])) ≡ out 1 1 (these (0 ∷ []))
+  pub lowest_sealed : standing all_sealed 8 (these (1 ∷ [])) 0 ≡ out 1 2 (these (0 ∷ []))
+  pub lowest_visible : standing (joins 0 5 (these (5 ∷ [])) 255) 8 (these (0 ∷ 2 ∷ 3 ∷ 4 ∷ [])) (these (1 ∷ 5 ∷ [])) ≡ out 1 1 (these (1 ∷ []))
+  pub lowest_hidden : standing (joins 0 5 0 255) 8 (these (1 ∷ [])) 0 ≡ out 1 2 (these (4 ∷ []))
+  pub lowest_of_two : standing in_clear 5 (these (0 ∷ 1 ∷ 2 ∷ 3 ∷ [])) 0 ≡ out 2 2 (these (4 ∷ []))
   -- of three tied sets that fail the one with the lowest first attribute, whole, though no attribute of it is visible
-  pub first_tied : standing all_sealed 8 (these (0 ∷ 1 ∷ 4 ∷ [])) (these (2 ∷ 3 ∷ 5 ∷ [])) ≡ Out 1 3 (these (0 ∷ 3 ∷ []))
+  pub first_tied : standing all_sealed 8 (these (0 ∷ 1 ∷ 4 ∷ [])) (these (2 ∷ 3 ∷ 5 ∷ [])) ≡ out 1 3 (these (0 ∷ 3 ∷ []))
   -- a lower tied set that lies wholly sealed doesn't fail, nor does one that lies wholly in clear: the higher one is named
-  pub tied_behind : standing all_sealed 8 (these (1 ∷ 2 ∷ 4 ∷ [])) (these (0 ∷ 3 ∷ 5 ∷ [])) ≡ Out 1 3 (these (4 ∷ 5 ∷ []))
+  pub tied_behind : standing all_sealed 8 (these (1 ∷ 2 ∷ 4 ∷ [])) (these (0 ∷ 3 ∷ 5 ∷ [])) ≡ out 1 3 (these (4 ∷ 5 ∷ []))
   -- a tied set of one attribute counts, and lies sealed where that is seen sealed
-  pub tied_alone : standing itself 3 (these (0 ∷ [])) 0 ≡ Out 1 3 (these (1 ∷ []))
-  pub tied_sealed : standing itself 3 (these (0 ∷ [])) (these (1 ∷ [])) ≡ Candidate
+  pub tied_alone : standing itself 3 (these (0 ∷ [])) 0 ≡ out 1 3 (these (1 ∷ []))
+  pub tied_sealed : standing itself 3 (these (0 ∷ [])) (these (1 ∷ [])) ≡ None
   -- a join on 0 with 3 and 1 with 4: one pair is seen in clear and the other sealed, and none is needed, or the one in clear; of the first, or of the last,
   -- or of a third that shares an attribute, one is seen in clear and one sealed, and just that tied set fails
-  pub pairs_each : standing (joins_on 0 2 0) 2 (these (0 ∷ 2 ∷ 3 ∷ 5 ∷ [])) (these (1 ∷ 4 ∷ [])) ≡ Candidate
-  pub pair_needed : standing (joins_on 0 2 (these (0 ∷ 3 ∷ []))) 2 (these (0 ∷ 2 ∷ 3 ∷ 5 ∷ [])) (these (1 ∷ 4 ∷ [])) ≡ Candidate
-  pub pair_half : standing (joins_on 0 2 0) 2 (these (0 ∷ 1 ∷ 2 ∷ 4 ∷ 5 ∷ [])) (these (3 ∷ [])) ≡ Out 3 3 (these (0 ∷ 3 ∷ []))
-  pub last_pair_half : standing (joins_on 0 2 0) 2 (these (0 ∷ 1 ∷ 2 ∷ 3 ∷ 5 ∷ [])) (these (4 ∷ [])) ≡ Out 3 3 (these (1 ∷ 4 ∷ []))
-  pub third_pair_half : standing (joins_on 0 3 0) 2 (these (0 ∷ 1 ∷ 2 ∷ 3 ∷ 4 ∷ [])) (these (5 ∷ [])) ≡ Out 3 3 (these (1 ∷ 4 ∷ 5 ∷ []))
+  pub pairs_each : standing (joins_on 0 2 0) 2 (these (0 ∷ 2 ∷ 3 ∷ 5 ∷ [])) (these (1 ∷ 4 ∷ [])) ≡ None
+  pub pair_needed : standing (joins_on 0 2 (these (0 ∷ 3 ∷ []))) 2 (these (0 ∷ 2 ∷ 3 ∷ 5 ∷ [])) (these (1 ∷ 4 ∷ [])) ≡ None
+  pub pair_half : standing (joins_on 0 2 0) 2 (these (0 ∷ 1 ∷ 2 ∷ 4 ∷ 5 ∷ [])) (these (3 ∷ [])) ≡ out 3 3 (these (0 ∷ 3 ∷ []))
+  pub last_pair_half : standing (joins_on 0 2 0) 2 (these (0 ∷ 1 ∷ 2 ∷ 3 ∷ 5 ∷ [])) (these (4 ∷ [])) ≡ out 3 3 (these (1 ∷ 4 ∷ []))
+  pub third_pair_half : standing (joins_on 0 3 0) 2 (these (0 ∷ 1 ∷ 2 ∷ 3 ∷ 4 ∷ [])) (these (5 ∷ [])) ≡ out 3 3 (these (1 ∷ 4 ∷ 5 ∷ []))
   -- a pair past those that the join names is not tied
-  pub pair_past : standing (joins_on 0 1 0) 2 (these (0 ∷ 1 ∷ 2 ∷ 3 ∷ 5 ∷ [])) (these (4 ∷ [])) ≡ Candidate
+  pub pair_past : standing (joins_on 0 1 0) 2 (these (0 ∷ 1 ∷ 2 ∷ 3 ∷ 5 ∷ [])) (these (4 ∷ [])) ≡ None
   -- 1 with 4 and 1 with 5 are one tied set, though each pair is seen whole
-  pub pairs_shared : standing (joins_on 1 2 0) 2 (these (0 ∷ 1 ∷ 2 ∷ 3 ∷ 4 ∷ [])) (these (1 ∷ 5 ∷ [])) ≡ Out 3 3 (these (1 ∷ 4 ∷ 5 ∷ []))
+  pub pairs_shared : standing (joins_on 1 2 0) 2 (these (0 ∷ 1 ∷ 2 ∷ 3 ∷ 4 ∷ [])) (these (1 ∷ 5 ∷ [])) ≡ out 3 3 (these (1 ∷ 4 ∷ 5 ∷ []))

@@ -12,25 +12,26 @@ pub struct Table {
     pub tied: [u64; 64],
 }
 
-// The cheapest subject so far: whether there is one, its cost, and the lowest subject of that cost.
-#[derive(Clone, Copy)]
+// The cheapest subject so far: its cost, and the lowest subject of that cost. None where there is none yet.
+#[derive(Clone, Copy, Debug, PartialEq, Eq)]
 pub struct Best {
-    pub found: bool,
     pub least: u64,
     pub lowest: u8,
 }
 
-// The tables that are looked at for a step's subject, in this order: the left operand's least view, the right one's, the result.
+// The tables that are looked at for a step's subject, in this order: the left operand's least view, the right one's, the result. Tables and
+// conditions are numbers, as the theorem `OutExactly` and the answer of `tollburrow_why` have them.
 pub const LEFT: u8 = 1;
 
 pub const RIGHT: u8 = 2;
 
 pub const RESULT: u8 = 3;
 
-// How a subject stands to a step: it is a candidate, or out by the first condition that fails, with the number of the table, the condition
-// and the set that offends.
-#[derive(Clone, Copy)]
-pub enum Standing {
-    Candidate,
-    Out { table: u8, condition: u8, set: u64 },
+// A subject is out of a step by the first condition that fails: the number of the table, the condition, and the set that offends. None where
+// the subject is a candidate.
+#[derive(Clone, Copy, Debug, PartialEq, Eq)]
+pub struct Out {
+    pub table: u8,
+    pub condition: u8,
+    pub set: u64,
 }

@@ -1,5 +1,6 @@
 -- A night: the values of one plan file, and what document 01 says of them.
 pub mod Versions
+pub mod Refusals
 pub mod ByVersion
 pub mod Night
 pub mod Kinds

@@ -2,12 +2,13 @@
 // reading hands out; and what each version of the file has.
 #![tactic(auto)]
 
+pub mod refusals;
 pub mod versions;
 
 // The header's values. In a version without a user, `user` is 0 and nothing looks at it; so with `pairs` in a version without pairs. In a version
 // without days, `day` is 0, and every grant is in force on it.
 #[repr(C)]
-#[derive(Clone, Copy)]
+#[derive(Clone, Copy, Debug, Default, PartialEq, Eq)]
 pub struct Header {
     pub version: u16,
     pub subjects: u8,
@@ -23,7 +24,7 @@ pub struct Header {
 
 // A relation: its owner and its attributes.
 #[repr(C)]
-#[derive(Clone, Copy)]
+#[derive(Clone, Copy, Debug, Default, PartialEq, Eq)]
 pub struct Relation {
     pub owner: u8,
     pub set: u64,
@@ -32,7 +33,7 @@ pub struct Relation {
 // A grant on a relation to a subject, or to any (255), in force from its first to its last day, both included: the attributes in clear, and those
 // sealed. In a version without days these are 0 and 65535.
 #[repr(C)]
-#[derive(Clone, Copy)]
+#[derive(Clone, Copy, Debug, Default, PartialEq, Eq)]
 pub struct Grant {
     pub relation: u8,
     pub subject: u8,
@@ -44,7 +45,7 @@ pub struct Grant {
 
 // A node of the query, with its three spare bytes, and which pairs it names: the first one's number, and how many. In a version without pairs both are 0.
 #[repr(C)]
-#[derive(Clone, Copy)]
+#[derive(Clone, Copy, Debug, Default, PartialEq, Eq)]
 pub struct Node {
     pub kind: u8,
     pub left: u8,
@@ -63,20 +64,20 @@ pub struct Node {
 
 // A pair of attributes that a join compares: the left operand's, and the right one's.
 #[repr(C)]
-#[derive(Clone, Copy)]
+#[derive(Clone, Copy, Debug, Default, PartialEq, Eq)]
 pub struct Pair {
     pub left: u8,
     pub right: u8,
 }
 
 // What a subject sees: attributes in clear, and attributes sealed.
-#[derive(Clone, Copy)]
+#[derive(Clone, Copy, Debug, Default, PartialEq, Eq)]
 pub struct View {
     pub clear: u64,
     pub sealed: u64,
 }
 
-// The kinds of node.
+// The kinds of node. Numbers and no enum: C hands in nodes with any byte as kind, and the definitions say of each byte what it has.
 pub const LEAF: u8 = 0;
 
 pub const PROJECT: u8 = 1;

@@ -2,23 +2,14 @@
 ghost use Rattle.std.specs.Prelude.{◌≡◌, ◌*◌, ◌<◌, ◌≤◌};
 ghost use Rattle.night.specs.Versions.{known, delivers, has_pairs, has_days, header_length, grant_length, node_length, last_kind};
 
+use crate::{FUNCTION, JOIN_ON_PAIRS};
+
 // Whether files of this version are read.
+#[tactic(auto, unfolding(crate::specs::Versions::known, laws::specs::Choose::any_of))]
 pub fn known(version: u16) -> bool
     ensures { result ≡ known version }
 {
-    if version == 1 {
-        return true;
-    }
-    if version == 2 {
-        return true;
-    }
-    if version == 3 {
-        return true;
-    }
-    if version == 4 {
-        return true;
-    }
-    false
+    (1..=4).contains(&version)
 }
 
 // Whether the header names a user, to whom the root's table is delivered.
@@ -26,10 +17,7 @@ pub fn known(version: u16) -> bool
 pub fn delivers(version: u16) -> bool
     ensures { result ≡ delivers version }
 {
-    if 1 < version {
-        return true;
-    }
-    false
+    1 < version
 }
 
 // Whether there are pairs to join on.
@@ -37,10 +25,7 @@ pub fn delivers(version: u16) -> bool
 pub fn has_pairs(version: u16) -> bool
     ensures { result ≡ has_pairs version }
 {
-    if 2 < version {
-        return true;
-    }
-    false
+    2 < version
 }
 
 // Whether grants have days, and the night one.
@@ -48,58 +33,53 @@ pub fn has_pairs(version: u16) -> bool
 pub fn has_days(version: u16) -> bool
     ensures { result ≡ has_days version }
 {
-    if 3 < version {
-        return true;
-    }
-    false
+    3 < version
 }
 
 // The length of the header.
+#[tactic(auto, unfolding(crate::specs::Versions::header_length))]
 pub fn header_length(version: u16) -> usize
     ensures { (result ≡ header_length version) × (result ≤ 19) }
 {
     if has_days(version) {
-        return 19;
+        19
+    } else if has_pairs(version) {
+        17
+    } else if delivers(version) {
+        16
+    } else {
+        15
     }
-    if has_pairs(version) {
-        return 17;
-    }
-    if delivers(version) {
-        return 16;
-    }
-    15
 }
 
 // The length of so many grants.
+#[tactic(auto, unfolding(crate::specs::Versions::grant_length))]
 pub fn grants_length(version: u16, n: u16) -> usize
     ensures { (result ≡ grant_length version * n) × (result < 1_500_000) }
 {
-    let many = n as usize;
-    if has_days(version) {
-        return 22 * many;
-    }
-    18 * many
+    let each = if has_days(version) { 22 } else { 18 };
+    each * usize::from(n)
 }
 
 // The length of so many nodes.
+#[tactic(auto, unfolding(crate::specs::Versions::node_length))]
 pub fn nodes_length(version: u16, n: u8) -> usize
     ensures { (result ≡ node_length version * n) × (result < 8000) }
 {
-    let many = n as usize;
-    if has_pairs(version) {
-        return 30 * many;
-    }
-    28 * many
+    let each = if has_pairs(version) { 30 } else { 28 };
+    each * usize::from(n)
 }
 
 // The last kind of node.
+#[tactic(auto, unfolding(crate::specs::Versions::last_kind))]
 pub fn last_kind(version: u16) -> u8
     ensures { result ≡ last_kind version }
 {
     if has_pairs(version) {
-        return 9;
+        JOIN_ON_PAIRS
+    } else {
+        FUNCTION
     }
-    8
 }
 
 // The length of what every version has of a node: all but the pairs that it names.

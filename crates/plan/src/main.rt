@@ -17,14 +17,13 @@ fn answer(rt: &impl Print, file: &[u8]) -> io::Result<()> {
     let mut choice = [0u8; 64];
     let mut plan = [0u64; 128];
     let mut keys = [0u64; 128];
-    let said = planning::cheapest(file, &mut choice, &mut plan, &mut keys);
-    match said {
-        CheapestPlan::Cheapest { total, steps } => {
+    match planning::cheapest(file, &mut choice, &mut plan, &mut keys) {
+        Ok(CheapestPlan { total, steps }) => {
             lines::totals(rt, total, steps)?;
             let h = values::header(file);
             lines::nodes(rt, &choice, &plan, h.nodes)?;
             lines::keys(rt, &keys, h.attributes)
         }
-        CheapestPlan::Refused { number, place } => lines::refused(rt, number, place),
+        Err(refusal) => lines::refused(rt, refusal),
     }
 }

@@ -1,44 +1,21 @@
 -- What each case of an answer says: document 01's number and place, or the values.
-use Rattle.std.specs.Prelude.{ℕ, ◌<◌, ◌≤◌, ◌*◌, ◌≡◌, List, ◌++◌, ◌↔◌, ◌⊎◌, get_or, drop}
+use Rattle.std.specs.Prelude.{ℕ, ◌<◌, ◌≤◌, ◌*◌, ◌≡◌, List, ◌++◌, ◌↔◌, ◌⊎◌, Result, Ok, Err, get_or, drop}
 use Rattle.laws.specs.Trials.{Says, answers, refuses, verdict}
 use Rattle.laws.specs.Upwards.{each}
 use Rattle.sets.specs.Sets.{In}
 use Rattle.night.specs.declared.Header.{Header}
+use Rattle.night.specs.declared.refusals.Refusal.{Refusal}
+use Rattle.night.specs.Refusals.{number_of, said}
 use Rattle.night.specs.Night.{Night, node_of}
 use Rattle.night.specs.Views.{clear_of, sealed_of}
 use Rattle.format.specs.Layout.{night_of}
 use Rattle.model.specs.Candidates.{Candidate, candidate_set}
 use Rattle.model.specs.Choice.{Choice, Least, total, steps}
 use Rattle.model.specs.Plan.{built, plan_room, keys_room}
-use Rattle.model.specs.Reasons.{standing}
-use Rattle.model.specs.declared.Standing.{Standing}
-use Rattle.model.specs.declared.Standing.TheVariants.{Candidate as IsCandidate, Out as IsOut}
+use Rattle.model.specs.Reasons.{Standing, standing}
 use Rattle.verdicts.specs.Refusals.{Rooms, why_trials, cheapest_plan_trials, offered_plan_trials}
 use Rattle.trials.specs.Trials.{trials}
-use Rattle.reading.specs.declared.Checked.{Checked}
-use Rattle.reading.specs.declared.Checked.TheVariants.{Accepted, Refused}
-use Rattle.choosing.specs.declared.Cheapest.{Cheapest}
-use Rattle.choosing.specs.declared.Cheapest.TheVariants.{Found, Refused as NotFound}
-use Rattle.choosing.specs.declared.Offered.{Offered}
-use Rattle.choosing.specs.declared.Offered.TheVariants.{Costs, Refused as NotCosted}
-use Rattle.planning.specs.declared.CandidateSet.{CandidateSet}
-use Rattle.planning.specs.declared.CandidateSet.TheVariants.{Among, Refused as NoCandidates}
-use Rattle.planning.specs.declared.SubjectStanding.{SubjectStanding}
-use Rattle.planning.specs.declared.SubjectStanding.TheVariants.{Candidate as SaysCandidate, Out as SaysOut, Refused as NotAsked}
 use Rattle.planning.specs.declared.CheapestPlan.{CheapestPlan}
-use Rattle.planning.specs.declared.CheapestPlan.TheVariants.{Cheapest as CheapestWith, Refused as NoCheapest}
-use Rattle.planning.specs.declared.OfferedPlan.{OfferedPlan}
-use Rattle.planning.specs.declared.OfferedPlan.TheVariants.{Offered as OfferedWith, Refused as NoOffered}
-
--- `candidates`: a set of subjects, or refused with number and place
-abbrev pub candidates_said : CandidateSet → Says ℕ
-candidates_said (Among set) = answers set
-candidates_said (NoCandidates n p) = refuses n p
-
--- reading's refusal as this answer (an acceptance is never handed in)
-abbrev pub passed_up : Checked → CandidateSet
-passed_up (Accepted h) = Among 0
-passed_up (Refused n p) = NoCandidates n p
 
 -- the candidates of a node, where no trial of reading fails
 unfoldable pub candidates_of : List ℕ → ℕ → Says ℕ
@@ -52,7 +29,7 @@ CandidatesExactly =
 
 -- any two answers that say the same are the same
 abbrev pub CandidatesOnce : Type 0
-CandidatesOnce = (a b : CandidateSet) → candidates_said a ≡ candidates_said b → a ≡ b
+CandidatesOnce = (a b : Result ℕ Refusal) → said a ≡ said b → a ≡ b
 
 -- a leaf and a number that no node has get the empty set
 abbrev pub NoneElsewhere : Type 0
@@ -60,29 +37,13 @@ NoneElsewhere =
     (s : List ℕ) (i set : ℕ) → candidates_of s i ≡ answers set
     → ((night_of s).header.nodes ≤ i) ⊎ ((node_of (night_of s) i).kind ≡ 0) → set ≡ 0
 
--- `why`: how a subject stands to a step, or refused with number and place
-abbrev pub why_said : SubjectStanding → Says Standing
-why_said SaysCandidate = answers IsCandidate
-why_said (SaysOut table condition set) = answers (IsOut table condition set)
-why_said (NotAsked n p) = refuses n p
-
--- reading's refusal as this answer (an acceptance is never handed in)
-abbrev pub unread : Checked → SubjectStanding
-unread (Accepted h) = SaysCandidate
-unread (Refused n p) = NotAsked n p
-
--- how the subject stands, as this answer
-abbrev pub told_of : Standing → SubjectStanding
-told_of IsCandidate = SaysCandidate
-told_of (IsOut table condition set) = SaysOut table condition set
-
 -- how subject p stands to step i by its view, where no trial fails
 unfoldable pub why_of : List ℕ → ℕ → ℕ → Says Standing
 why_of s i p = verdict (why_trials s i p) (standing (night_of s) i (clear_of (night_of s) p) (sealed_of (night_of s) p))
 
 -- any two answers that say the same are the same
 abbrev pub WhyOnce : Type 0
-WhyOnce = (a b : SubjectStanding) → why_said a ≡ why_said b → a ≡ b
+WhyOnce = (a b : Result Standing Refusal) → said a ≡ said b → a ≡ b
 
 -- plan and keys once they are written for the subjects of a choice
 abbrev pub WrittenFor : Night → Header → List ℕ → List ℕ → List ℕ → List ℕ → List ℕ → Type 0
@@ -104,25 +65,17 @@ pub record CheapestFilled (N : Night) (before after : Rooms) (total' steps' : �
   pub choice : after.choice ≡ each N.header.nodes subject ++ drop N.header.nodes before.choice
   pub filled : Filled N subject before after
 
--- the choice's answer as that of `cheapest`
-abbrev pub choice_passed_up : Cheapest → CheapestPlan
-choice_passed_up (Found total steps) = CheapestWith total steps
-choice_passed_up (NotFound n p) = NoCheapest n p
-
 -- `cheapest`: answered where no trial fails, with the rooms filled; when refused, every room is as it was
-abbrev pub CheapestSays : List ℕ → Rooms → Rooms → CheapestPlan → Type 0
-CheapestSays s before after (CheapestWith total steps) =
-    (verdict (cheapest_plan_trials s before) (tt {0}) ≡ answers tt) × CheapestFilled (night_of s) before after total steps
-CheapestSays s before after (NoCheapest n p) = (verdict (cheapest_plan_trials s before) (tt {0}) ≡ refuses n p) × (after ≡ before)
-
--- the offer's answer as that of `offered`
-abbrev pub offer_passed_up : Offered → OfferedPlan
-offer_passed_up (Costs total) = OfferedWith total
-offer_passed_up (NotCosted n p) = NoOffered n p
+abbrev pub CheapestSays : List ℕ → Rooms → Rooms → Result CheapestPlan Refusal → Type 0
+CheapestSays s before after (Ok c) =
+    (verdict (cheapest_plan_trials s before) (tt {0}) ≡ answers tt) × CheapestFilled (night_of s) before after c.total c.steps
+CheapestSays s before after (Err r) =
+    (verdict (cheapest_plan_trials s before) (tt {0}) ≡ refuses (number_of r.reason) r.place) × (after ≡ before)
 
 -- `offered`: answered where no trial fails, with plan and keys filled; the room for the choice is not asked and stays
-abbrev pub OfferedSays : List ℕ → List ℕ → Rooms → Rooms → OfferedPlan → Type 0
-OfferedSays s offer before after (OfferedWith total') =
+abbrev pub OfferedSays : List ℕ → List ℕ → Rooms → Rooms → Result ℕ Refusal → Type 0
+OfferedSays s offer before after (Ok total') =
     (verdict (offered_plan_trials s offer before) (tt {0}) ≡ answers tt) × (total' ≡ total (night_of s) (λ i. get_or offer i 0))
     × Filled (night_of s) (λ i. get_or offer i 0) before after × (after.choice ≡ before.choice)
-OfferedSays s offer before after (NoOffered n p) = (verdict (offered_plan_trials s offer before) (tt {0}) ≡ refuses n p) × (after ≡ before)
+OfferedSays s offer before after (Err r) =
+    (verdict (offered_plan_trials s offer before) (tt {0}) ≡ refuses (number_of r.reason) r.place) × (after ≡ before)

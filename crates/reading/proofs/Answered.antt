@@ -1,4 +1,4 @@
--- What the answers of `check` and `grant_records` leave no choice in.
+-- What the answers of `grant_records` leave no choice in.
 use Prim.Native.Nat.{ℕ, ◌-◌, ◌*◌, ◌≤◌, min}
 use mathlib.Core.Path.{◌≡◌, refl, sym, ap, ◌∙◌}
 use mathlib.Core.List.{List, []}
@@ -10,20 +10,10 @@ use lib.ListN.{length, take, drop, length-take, length-drop}
 use Rattle.laws.specs.Trials.{Says, answers, refuses}
 use Rattle.night.specs.declared.Header.{Header}
 use Rattle.format.specs.Layout.{grants_from, nodes_from, night_in}
-use Rattle.reading.specs.Answers.{grants_part, EmptyWhenRefused, SaidOnce}
+use Rattle.reading.specs.Answers.{grants_part, EmptyWhenRefused}
 use Rattle.trials.specs.Trials.{check_of}
-use Rattle.reading.specs.declared.Checked.TheVariants.{Accepted, Refused}
 use Rattle.trials.proofs.Opened.{accepted_header, accepted_length, nodes_within}
 use Rattle.trials.proofs.Promises.{accepted_promises}
-
-pub said_once : SaidOnce
-said_once (Accepted h) (Accepted g) e = let same : h ≡ g = cc in ap Accepted same
-said_once (Accepted h) (Refused n p) e = absurd (let z : ◌≡◌ {A = ℕ} 0 1 = cc in omega arith)
-said_once (Refused n p) (Accepted h) e = absurd (let z : ◌≡◌ {A = ℕ} 0 1 = cc in omega arith)
-said_once (Refused n p) (Refused m q) e =
-    let number : n ≡ m = cc in
-    let place : p ≡ q = cc in
-    rw (number, place) refl
 
 -- an accepted file has a grant, so its part is not empty
 part_some : (s : List ℕ) (h : Header) → check_of s ≡ answers h → take (nodes_from h - grants_from h) (drop (grants_from h) s) ≡ [] → ⊥

@@ -1,4 +1,3 @@
 -- What reading answers, and what its loops have at hand.
 pub mod HasVisible
 pub mod Answers
-pub mod Taker

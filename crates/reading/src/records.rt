@@ -1,91 +1,96 @@
 // Refusals 5 to 7: relations, grants, owners' views.
 ghost use Rattle.std.specs.Prelude.{◌<◌, ◌^◌, ◌≡◌, [], ◌∷◌};
 ghost use Rattle.laws.specs.Trials.{trial, verdict};
-ghost use Rattle.format.specs.Layout.{night_in};
-ghost use Rattle.trials.specs.Rules.{left_over};
-ghost use Rattle.reading.specs.Answers.{tried_of};
-ghost use Rattle.trials.specs.Trials.{taken_before, pair_seen, trials_of};
+ghost use Rattle.layout.specs.Held.{night_held};
+ghost use Rattle.night.specs.Refusals.{number_of, said};
+ghost use Rattle.trials.specs.Trials.{taken_before, left_trials, pair_seen, trials_of};
 ghost use Rattle.trials.specs.declared.Section.TheVariants.{Relations, Grants, Owners};
 
-use crate::Tried;
-use layout::values;
-use night::Header;
+use layout::PlanFile;
+use night::refusals::{Reason, Refusal};
 use rules::records;
 use sets::attributes;
 
 // One trial, which fails where `bad` holds.
-pub(crate) fn tried(bad: bool, number: u8, place: usize) -> Tried
+#[tactic(auto, using(laws::proofs::Cases::cases), unfolding(laws::specs::Trials::verdict))]
+pub(crate) fn tried(bad: bool, reason: Reason, place: usize) -> Result<(), Refusal>
     requires { place < 2 ^ 32 }
-    ensures { tried_of result ≡ verdict (trial bad number place ∷ []) tt }
+    ensures { said result ≡ verdict (trial bad (number_of reason) place ∷ []) tt }
 {
     if bad {
-        return Tried::Failed {
-            number,
+        return Err(Refusal {
+            reason,
             place: place as u32,
-        };
+        });
     }
-    Tried::Passed
+    Ok(())
 }
 
 // The attributes that the relations before i have.
-fn taken_before(file: &[u8], h: Header, i: usize) -> u64
-    ensures { result ≡ taken_before (night_in file.now h) i }
+fn taken_before(file: &PlanFile<'_>, i: usize) -> u64
+    ensures { result ≡ taken_before (night_held file.now) i }
 {
-    let mut taken: u64 = 0;
-    let mut j: usize = 0;
-    while j < i {
-        let v = values::relation(file, h, j);
-        taken = attributes::union(taken, v.set);
-        j += 1;
+    let mut taken = 0;
+    for j in 0..i {
+        taken = attributes::union(taken, file.relation(j).set);
     }
     taken
 }
 
 // 5: relation i.
-pub(crate) fn relation_tried(file: &[u8], h: Header, i: usize) -> Tried
+#[tactic(auto, unfolding(trials::specs::Trials::trials_of, format::specs::Layout::night_in))]
+pub(crate) fn relation_tried(file: &PlanFile<'_>, i: usize) -> Result<(), Refusal>
     requires { i < 2 ^ 32 }
-    ensures { tried_of result ≡ verdict (trials_of (night_in file.now h) Relations i) tt }
+    ensures { said result ≡ verdict (trials_of (night_held file.now) Relations i) tt }
 {
-    let bad = records::relation_bad(h, taken_before(file, h, i), values::relation(file, h, i));
-    tried(bad, 5, i)
+    let bad = records::relation_bad(file.header, taken_before(file, i), file.relation(i));
+    tried(bad, Reason::BadRelation, i)
 }
 
 // 5: attributes left over after all relations.
-pub(crate) fn left_tried(file: &[u8], h: Header) -> Tried
-    ensures { tried_of result ≡ verdict (trial (left_over h (taken_before (night_in file.now h) h.relations)) 5 h.relations ∷ []) tt }
+#[tactic(auto, unfolding(format::specs::Layout::night_in))]
+pub(crate) fn left_tried(file: &PlanFile<'_>) -> Result<(), Refusal>
+    ensures { said result ≡ verdict (left_trials (night_held file.now)) tt }
 {
-    let n = h.relations as usize;
-    tried(records::left_over(h, taken_before(file, h, n)), 5, n)
+    let n = file.header.relations as usize;
+    tried(
+        records::left_over(file.header, taken_before(file, n)),
+        Reason::BadRelation,
+        n,
+    )
 }
 
 // 6: whether an earlier grant for the same pair of relation and subject shares a day with it.
-fn pair_seen(file: &[u8], h: Header, i: usize) -> bool
-    ensures { result ≡ pair_seen (night_in file.now h) i }
+#[tactic(auto, unfolding(trials::specs::Trials::pair_seen, laws::specs::First::somewhere))]
+fn pair_seen(file: &PlanFile<'_>, i: usize) -> bool
+    ensures { result ≡ pair_seen (night_held file.now) i }
 {
-    let g = values::grant(file, h, i);
-    views::first_grant(file, h, g.relation, g.subject, g.first, g.last, i) < i
+    let g = file.grant(i);
+    views::first_grant(file, g.relation, g.subject, g.first, g.last, i) < i
 }
 
 // 6: grant i, by itself and beside the earlier ones.
-pub(crate) fn grant_tried(file: &[u8], h: Header, i: usize) -> Tried
+pub(crate) fn grant_tried(file: &PlanFile<'_>, i: usize) -> Result<(), Refusal>
     requires { i < 2 ^ 32 }
-    ensures { tried_of result ≡ verdict (trials_of (night_in file.now h) Grants i) tt }
+    ensures { said result ≡ verdict (trials_of (night_held file.now) Grants i) tt }
 {
-    let g = values::grant(file, h, i);
-    let relation = values::relation(file, h, g.relation as usize);
-    let alone = tried(records::grant_bad(h, relation.set, g), 6, i);
-    let Tried::Passed = alone else {
-        return alone;
-    };
-    tried(pair_seen(file, h, i), 6, i)
+    let g = file.grant(i);
+    let relation = file.relation(g.relation as usize);
+    tried(
+        records::grant_bad(file.header, relation.set, g),
+        Reason::BadGrant,
+        i,
+    )?;
+    tried(pair_seen(file, i), Reason::BadGrant, i)
 }
 
 // 7: the owner of relation i.
-pub(crate) fn owner_tried(file: &[u8], h: Header, i: usize) -> Tried
-    requires { i < 256 }
-    ensures { tried_of result ≡ verdict (trials_of (night_in file.now h) Owners i) tt }
+#[tactic(auto, unfolding(trials::specs::Trials::trials_of, format::specs::Layout::night_in))]
+pub(crate) fn owner_tried(file: &PlanFile<'_>, i: usize) -> Result<(), Refusal>
+    requires { i < file.now.header.relations }
+    ensures { said result ≡ verdict (trials_of (night_held file.now) Owners i) tt }
 {
-    let v = values::relation(file, h, i);
-    let view = views::view(file, h, h.day, v.owner, i as u8);
-    tried(records::owner_bad(v, view.clear), 7, i)
+    let v = file.relation(i);
+    let view = views::view(file, file.header.day, v.owner, i as u8);
+    tried(records::owner_bad(v, view.clear), Reason::BlindOwner, i)
 }

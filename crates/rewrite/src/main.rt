@@ -3,33 +3,15 @@
 #![tactic(auto)]
 
 use encoding::LONGEST;
-use show::words::Word;
 use show::{input, lines, rooms, words};
-use std::env::Env;
 use std::io;
-use writing::Written;
 
 // The program's own name is counted among its words.
 fn main(rt: HostRuntime) -> io::Result<()> {
-    let words = words::count(&rt);
-    if words == 1 {
-        return run(&rt, LONGEST);
-    }
-    if words != 2 {
-        return tell_use(&rt);
-    }
-    let Word::Number(lent) = word_at(&rt, 1) else {
-        return tell_use(&rt);
-    };
-    run(&rt, lent as usize)
-}
-
-// What word i says. One that is longer than the buffer is no number.
-fn word_at(rt: &impl Env, i: usize) -> Word {
-    let mut buffer = [0u8; 4096];
-    match rt.arg(i, &mut buffer) {
-        Ok(n) => words::number(&buffer[..n]),
-        Err(_) => Word::Other,
+    match (words::count(&rt), words::at(&rt, 1)) {
+        (1, _) => run(&rt, LONGEST),
+        (2, Some(lent)) => run(&rt, lent as usize),
+        _ => tell_use(&rt),
     }
 }
 
@@ -38,24 +20,14 @@ fn tell_use(rt: &impl Eprint) -> io::Result<()> {
     eprintln!(rt; "use: rewrite [ROOM] < FILE, a number below 4294967296")
 }
 
-// Reads the file and lends so much room. More than the longest file has is never needed: the room is no longer than that.
+// Reads the file, lends so much room, and prints the file written again, or the refusal. More room than the longest file has is never needed: it is no
+// longer than that.
 fn run(rt: &(impl Input + Print), lent: usize) -> io::Result<()> {
     let mut input = [0u8; input::ROOM];
     let file = input::read(rt, &mut input)?;
     let mut room = [0u8; LONGEST];
-    answer(rt, file, rooms::bytes_front(&mut room, lent))
-}
-
-// Writes the file again and prints it, or the refusal.
-fn answer(rt: &impl Print, file: &[u8], room: &mut [u8]) -> io::Result<()> {
-    match writing::rewrite(file, room) {
-        Written::Bytes(n) => print(rt, room, n),
-        Written::Refused { number, place } => lines::refused(rt, number, place),
+    match writing::rewrite(file, rooms::front(&mut room, lent)) {
+        Ok(n) => rt.write_all(rooms::front(&mut room, n)),
+        Err(refusal) => lines::refused(rt, refusal),
     }
-}
-
-// The first n bytes, just as they are: they are the file, and no line.
-fn print(rt: &impl Print, room: &mut [u8], n: usize) -> io::Result<()> {
-    let file = rooms::bytes_front(room, n);
-    rt.write_all(file)
 }

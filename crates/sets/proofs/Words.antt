@@ -6,11 +6,14 @@ use mathlib.Core.Logic.{⊎_elim, ◌↔◌}
 use native.Mathlib.Nat.{div_self, pow-suc, mod-lt, mod-eq_of_lt, mul-mod_left, one-mul, lt_of_not-le, lt_of_lt_of_le, eq-or-lt_of_le, le_of_suc-le-suc}
 use native.Mathlib.Numerals.{add-one}
 use native.Mathlib.Omega.{arith}
-use lib.Dec.{eqb}
+use lib.Dec.{eqb, ltb}
 use lib.Pow.{pow_pos, pow-lt, pow_mono, pow-add, ones_lt}
 use lib.Bits.{or_lt, and_le_l}
 use lib.Count.{count_trailing_zeros, under, trailing_of_zero, trailing_le, ones_step, ones-le}
-use borrow.Author.Tests.{ne_eqb, eqb-false}
+use borrow.Author.Tests.{ne_eqb, eqb-false, le-ltb}
+use Rattle.std.specs.Int.Bits.{bit_and}
+use Rattle.std.proofs.lemmas.Nat.{and_comm, and-not}
+use Rattle.std.proofs.lemmas.Grind.{bit_length}
 use Rattle.sets.specs.Sets.{bit, In, member, union, meet, minus, Within, within, apart, below, single, lowest, size, count_below, unions}
 use Rattle.sets.proofs.Members.{same_below, same_members, below_pow, in_or_not, in_meet, in_minus, bit_lt, bit_zero, bit_suc, bit_none, bit_beyond, in_none}
 
@@ -19,21 +22,21 @@ pub member_shift : (S k : ℕ) → eqb (S / 2 ^ k % 2) 1 ≡ member S k
 unfolding member bit
 member_shift S k = refl
 
-pub member_past : (w S k : ℕ) → S < 2 ^ w → w ≤ k → false ≡ member S k
+pub member_past : (w S k : ℕ) → S < 2 ^ w → w ≤ k → ltb k w ≡ member S k
 unfolding member
-member_past w S k h l = sym (ne_eqb (bit S k) 1 (λ e. omega (arith, bit_beyond w S k h l)))
+member_past w S k h l = rw (le-ltb k w l, ne_eqb (bit S k) 1 (λ e. omega (arith, bit_beyond w S k h l))) refl
 
 -- one shifted to k
 pub single_is : (w k : ℕ) → k < w → single w k ≡ 2 ^ k
 unfolding single
 single_is w k l = mod-eq_of_lt (pow-lt l)
 
-pub single_shift : (w k : ℕ) → k < w → (1 * 2 ^ k) % 2 ^ w ≡ single w k
+pub single_shift : (w word k : ℕ) → word ≡ 2 ^ w → 1 * 2 ^ k % word ≡ single w k
 unfolding single
-single_shift w k l = rw one-mul refl
+single_shift w word k e = rw (one-mul, e) refl
 
-shift_one : (w k : ℕ) → k < w → (1 * 2 ^ k) % 2 ^ w ≡ 2 ^ k
-shift_one w k l = single_shift w k l ∙ single_is w k l
+shift_one : (w k : ℕ) → k < w → 1 * 2 ^ k % 2 ^ w ≡ 2 ^ k
+shift_one w k l = single_shift w _ k refl ∙ single_is w k l
 
 pub single_past : (w k : ℕ) → w ≤ k → 0 ≡ single w k
 unfolding single
@@ -41,20 +44,17 @@ single_past w k l =
     let e : k - w + w ≡ k = omega arith in
     sym (rw (← pow-add 2 (k - w) w, e) at (mul-mod_left (2 ^ (k - w)) (2 ^ w)))
 
-pub below_shift : (w k : ℕ) → k < w → (1 * 2 ^ k) % 2 ^ w - 1 ≡ below w k
+pub below_shift : (w word k : ℕ) → word ≡ 2 ^ w → k < w → 1 * 2 ^ k % word - 1 ≡ below w k
 unfolding below
-below_shift w k l =
+below_shift w word k s l =
     let e : min k w ≡ k = omega arith in
-    rw (shift_one w k l, e) refl
+    rw (s, shift_one w k l, e) refl
 
 pub below_past : (w k : ℕ) → w ≤ k → 2 ^ w - 1 ≡ below w k
 unfolding below
 below_past w k l =
     let e : min k w ≡ w = omega arith in
     rw e refl
-
-pub shift_pos : (w k : ℕ) → k < w → 1 ≤ (1 * 2 ^ k) % 2 ^ w
-shift_pos w k l = rw (shift_one w k l) (pow_pos k)
 
 -- members of these
 in_pow : (k : ℕ) → In k (2 ^ k)
@@ -184,6 +184,18 @@ count_tight (suc n) a b f h k l =
 
 pub count_grows : (w a b : ℕ) → a < 2 ^ w → b < 2 ^ w → Within a b → (a ≡ b → ⊥) → count_below w a < count_below w b
 count_grows w a b ha hb f differ = lt_of_not-le (λ g. differ (same_below w a b ha hb (count_tight w a b f g)))
+
+-- what a mask leaves of a set, in words whose largest is top
+pub minus_mask : (a top b : ℕ) → top + 1 ≡ 2 ^ bit_length 128 top → a ≤ top → b ≤ top → bit_and a (top - b) ≡ minus a b
+unfolding minus
+minus_mask a top b e ha hb =
+    let w = bit_length 128 top in
+    let rest : top - b ≡ 2 ^ w - 1 - b = omega arith in
+    let whole : bit_and (2 ^ w - 1 - b) a + bit_and b a ≡ a = and-not w b a (omega arith) (omega arith) in
+    rw (rest, and_comm a b, and_comm a (2 ^ w - 1 - b)) (omega arith)
+
+-- what the code of a word makes
+pub ruleset laws = (member_shift, member_past, single_shift, single_past, below_shift, below_past, minus_mask)
 
 -- within the word
 pub union_lt : (w a b : ℕ) → a < 2 ^ w → b < 2 ^ w → union a b < 2 ^ w

@@ -6,10 +6,7 @@ ghost use Rattle.sets.specs.Sets.{member, union, meet, minus, within, apart, bel
 pub fn has(set: u64, k: u8) -> bool
     ensures { result ≡ member set k }
 {
-    if 64 <= k {
-        return false;
-    }
-    (set >> k) % 2 == 1
+    k < 64 && (set >> k) % 2 == 1
 }
 
 // What is in a or in b.
@@ -30,7 +27,7 @@ pub fn meet(a: u64, b: u64) -> u64
 pub fn minus(a: u64, b: u64) -> u64
     ensures { result ≡ minus a b }
 {
-    a - (a & b)
+    a & !b
 }
 
 // Whether every member of a is one of b.
@@ -51,25 +48,20 @@ pub fn apart(a: u64, b: u64) -> bool
 pub fn below(k: u8) -> u64
     ensures { result ≡ below 64 k }
 {
-    if 64 <= k {
-        return 0xffff_ffff_ffff_ffff;
-    }
-    (1 << k) - 1
+    if k < 64 { (1 << k) - 1 } else { u64::MAX }
 }
 
 // The set of k alone.
 pub fn single(k: u8) -> u64
     ensures { result ≡ single 64 k }
 {
-    if 64 <= k {
-        return 0;
-    }
-    1 << k
+    if k < 64 { 1 << k } else { 0 }
 }
 
 // The lowest member, or 64 where there is none.
+#[tactic(auto, unfolding(crate::specs::Sets::lowest))]
 pub fn lowest(set: u64) -> u32
     ensures { result ≡ lowest 64 set }
 {
-    u64::trailing_zeros(set)
+    set.trailing_zeros()
 }

@@ -1,4 +1,6 @@
 // Sets of subjects: bit p of a u16 for subject p. A number from 16 on is in no set.
+// Kept two functions: a trait for both words proves, but each impl repeats the bodies for its width, its contracts go by way of a ghost number,
+// and no caller is generic in the word.
 ghost use Rattle.std.specs.Prelude.{◌≡◌};
 ghost use Rattle.sets.specs.Sets.{member, union, minus, single, size};
 
@@ -6,10 +8,7 @@ ghost use Rattle.sets.specs.Sets.{member, union, minus, single, size};
 pub fn has(set: u16, p: u8) -> bool
     ensures { result ≡ member set p }
 {
-    if 16 <= p {
-        return false;
-    }
-    (set >> p) % 2 == 1
+    p < 16 && (set >> p) % 2 == 1
 }
 
 // What is in a or in b.
@@ -23,22 +22,20 @@ pub fn union(a: u16, b: u16) -> u16
 pub fn minus(a: u16, b: u16) -> u16
     ensures { result ≡ minus a b }
 {
-    a - (a & b)
+    a & !b
 }
 
 // The set of p alone.
 pub fn single(p: u8) -> u16
     ensures { result ≡ single 16 p }
 {
-    if 16 <= p {
-        return 0;
-    }
-    1 << p
+    if p < 16 { 1 << p } else { 0 }
 }
 
 // How many members there are.
+#[tactic(auto, unfolding(crate::specs::Sets::size))]
 pub fn size(set: u16) -> u32
     ensures { result ≡ size set }
 {
-    u16::count_ones(set)
+    set.count_ones()
 }

@@ -1,4 +1,3 @@
 -- Rooms that kept what stood in them, and words as numbers.
-pub mod Kept
 pub mod Decimal
 pub mod Computed

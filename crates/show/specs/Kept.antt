@@ -1,11 +1,7 @@
 -- Whether a room kept what stood in it.
-use Rattle.std.specs.Prelude.{ℕ, Bool, false, not, List, eqb, ltb, length, get_or, if◌then◌else◌}
-use Rattle.laws.specs.First.{somewhere}
-
--- from this place on, something else stands at place i
-unfoldable pub changed : ℕ → List ℕ → ℕ → ℕ → Bool
-changed value room from i = if ltb i from then false else not (eqb (get_or room i 0) value)
+use Rattle.std.specs.Prelude.{ℕ, Bool, List, drop}
+use Rattle.std.specs.List.{list_all}
 
 -- from this place on, every place holds the value
-unfoldable pub kept : ℕ → List ℕ → ℕ → Bool
-kept value room from = not (somewhere (changed value room from) (length room))
+abbrev pub kept : {A : Type 0} → (A → A → Bool) → A → List A → ℕ → Bool
+kept eq value room from = list_all (λ found. eq found value) (drop from room)

@@ -16,6 +16,7 @@ pub fn read<'r>(rt: &impl Input, room: &'r mut [u8]) -> io::Result<&'r mut [u8]>
 }
 
 // Reads standard input until the room is full or the input ends. Says how many bytes came. The room keeps its length, also where a read fails.
+// A `while`, since how often it reads is for the input to say.
 pub fn read_full(rt: &impl Input, room: &mut [u8]) -> io::Result<usize>
     ensures came { IfOk result (λ n. n ≤ length room.new) }
     ensures kept { length room.new ≡ length room.old }

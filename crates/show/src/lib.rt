@@ -5,12 +5,3 @@ pub mod input;
 pub mod lines;
 pub mod rooms;
 pub mod words;
-
-ghost use Rattle.std.specs.Prelude.{◌<◌, ◌≡◌};
-
-// A byte as a number.
-fn wide(x: u8) -> u64
-    ensures { (result ≡ x) × (result < 256) }
-{
-    x as u64
-}

@@ -1,8 +1,7 @@
 // The words that a program is started with.
 ghost use Rattle.std.specs.Prelude.{◌≡◌};
-ghost use Rattle.show.specs.Words.{is_digit, word_of};
+ghost use Rattle.show.specs.Words.{word_of};
 
-use crate::wide;
 use std::env::{Env, FillError};
 
 // How many words the program was started with, its own name among them.
@@ -15,43 +14,30 @@ pub fn count(rt: &impl Env) -> usize {
     usize::MAX
 }
 
-// What a word says: a decimal number below 2^32, or something else.
-#[derive(Clone, Copy)]
-pub enum Word {
-    Number(u32),
-    Other,
-}
-
-// Whether a byte is a decimal digit.
-fn is_digit(b: u8) -> bool
-    ensures { result ≡ is_digit b }
-{
-    if b < b'0' {
-        return false;
-    }
-    b <= b'9'
-}
-
-// The number that a word says. Once it is too high no further digit brings it down, so a word of any length is read without a sum that wraps.
-#[tactic(auto, using(crate::proofs::Decimal::word_past))]
-pub fn number(word: &[u8]) -> Word
+// The number below 2^32 that a word says in decimal digits. (`parse` would take a sign too.)
+pub fn number(word: &[u8]) -> Option<u32>
     ensures { result ≡ word_of word.now }
 {
-    if word.len() == 0 {
-        return Word::Other;
+    if word.is_empty() {
+        return None;
     }
-    let mut v: u64 = 0;
-    let mut i: usize = 0;
-    while i < word.len() {
-        let b = word[i];
-        if !is_digit(b) {
-            return Word::Other;
+    let mut number: u32 = 0;
+    for digit in word {
+        if !digit.is_ascii_digit() {
+            return None;
         }
-        v = v * 10 + wide(b - b'0');
-        if 4294967296 <= v {
-            return Word::Other;
-        }
-        i += 1;
+        number = number
+            .checked_mul(10)?
+            .checked_add(u32::from(*digit - b'0'))?;
     }
-    Word::Number(v as u32)
+    Some(number)
+}
+
+// The number that word i says. A word that is longer than the buffer says none.
+pub fn at(rt: &impl Env, i: usize) -> Option<u32> {
+    let mut buffer = [0u8; 4096];
+    match rt.arg(i, &mut buffer) {
+        Ok(n) => number(&buffer[..n]),
+        Err(_) => None,
+    }
 }

@@ -5,7 +5,7 @@ pub mod may;
 pub mod parts;
 
 // What a table has but for its tied sets: attributes visible in clear and sealed, and those that past steps tested in clear and sealed.
-#[derive(Clone, Copy)]
+#[derive(Clone, Copy, Default)]
 pub struct Columns {
     pub clear: u64,
     pub sealed: u64,

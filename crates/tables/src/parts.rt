@@ -1,5 +1,6 @@
 // Tables made of other tables: least views, operands joined, results. What is said of the columns holds whatever is tied.
 ghost use Rattle.std.specs.Prelude.{ℕ, ◌≡◌, List, if◌then◌else◌};
+ghost use Rattle.sets.specs.Sets.{union};
 ghost use Rattle.night.specs.Night.{Night};
 ghost use Rattle.night.specs.Kinds.{uses_right, visible_after};
 ghost use Rattle.model.specs.Ties.{merged};
@@ -14,34 +15,29 @@ use sets::attributes;
 pub fn no_columns() -> Columns
     ensures { result ≡ columns_of blank }
 {
-    Columns {
-        clear: 0,
-        sealed: 0,
-        tested: 0,
-        hidden: 0,
-    }
+    Columns::default()
 }
 
 // A leaf's table: its set in clear.
+#[tactic(auto, unfolding(model::specs::Tables::leaf_table))]
 pub fn leaf_columns(v: Node) -> Columns
     ensures { result ≡ columns_of (leaf_table v) }
 {
     Columns {
         clear: v.set,
-        sealed: 0,
-        tested: 0,
-        hidden: 0,
+        ..Columns::default()
     }
 }
 
 // All that is visible.
 fn shown(t: Columns) -> u64
-    ensures { (tied : List ℕ) → result ≡ shown (with_tied t tied) }
+    ensures { result ≡ union t.clear t.sealed }
 {
     attributes::union(t.clear, t.sealed)
 }
 
 // The least view: the needed attributes that are visible are clear, the other visible ones sealed.
+#[tactic(auto, unfolding(model::specs::Tables::least_view))]
 pub fn least_view(needed: u64, t: Columns) -> Columns
     ensures { (tied : List ℕ) → with_tied result tied ≡ least_view needed (with_tied t tied) }
 {
@@ -55,6 +51,7 @@ pub fn least_view(needed: u64, t: Columns) -> Columns
 }
 
 // Two operands' parts joined.
+#[tactic(auto, unfolding(model::specs::Tables::joined))]
 fn join(t: Columns, u: Columns) -> Columns
     ensures { (tied other : List ℕ) → with_tied result (merged tied other 64) ≡ joined (with_tied t tied) (with_tied u other) }
 {
@@ -67,31 +64,14 @@ fn join(t: Columns, u: Columns) -> Columns
 }
 
 // What the step adds to the implicit part.
+#[tactic(auto, unfolding(model::specs::Tables::tests))]
 fn tests(v: Node) -> u64
     ensures { result ≡ tests v }
 {
-    if v.kind == night::SELECT_VALUE {
-        return attributes::single(v.x);
-    }
-    if v.kind == night::AGGREGATE {
-        return v.set;
-    }
-    if v.kind == night::COUNT {
-        return v.set;
-    }
-    0
-}
-
-// The step's result over its operands' parts, where `after` is visible after it.
-fn result(v: Node, after: u64, t: Columns) -> Columns
-    ensures { (N : Night) (tied : List ℕ) → with_tied result (tie_all tied (ties N v)) ≡ result_table N v after (with_tied t tied) }
-{
-    let tested = tests(v);
-    Columns {
-        clear: attributes::meet(t.clear, after),
-        sealed: attributes::meet(t.sealed, after),
-        tested: attributes::union(t.tested, attributes::meet(tested, t.clear)),
-        hidden: attributes::union(t.hidden, attributes::meet(tested, t.sealed)),
+    match v.kind {
+        night::SELECT_VALUE => attributes::single(v.x),
+        night::AGGREGATE | night::COUNT => v.set,
+        _ => 0,
     }
 }
 
@@ -101,15 +81,25 @@ pub fn taken(v: Node, left: Columns, right: Columns) -> Columns
         → result ≡ columns_of (if uses_right v.kind then joined (with_tied left tied) (with_tied right other) else with_tied left tied) }
 {
     if kinds::uses_right(v.kind) {
-        return join(left, right);
+        join(left, right)
+    } else {
+        left
     }
-    left
 }
 
 // The step's table over its operands' tables l and r, of which it has `taken`.
+#[tactic(auto, unfolding(model::specs::Tables::result))]
 pub fn made(v: Node, l: Columns, r: Columns, taken: Columns) -> Columns
     ensures { (N : Night) (tied other both : List ℕ)
-        → with_tied result (tie_all both (ties N v)) ≡ result_table N v (visible_after v (shown (with_tied l tied)) (shown (with_tied r other))) (with_tied taken both) }
+        → with_tied result (tie_all both (ties N v))
+        ≡ result_table N v (visible_after v (shown (with_tied l tied)) (shown (with_tied r other))) (with_tied taken both) }
 {
-    result(v, kinds::visible_after(v, shown(l), shown(r)), taken)
+    let after = kinds::visible_after(v, shown(l), shown(r));
+    let tested = tests(v);
+    Columns {
+        clear: attributes::meet(taken.clear, after),
+        sealed: attributes::meet(taken.sealed, after),
+        tested: attributes::union(taken.tested, attributes::meet(tested, taken.clear)),
+        hidden: attributes::union(taken.hidden, attributes::meet(tested, taken.sealed)),
+    }
 }

@@ -5,6 +5,7 @@ use mathlib.Core.List.{List, ◌++◌}
 use native.Mathlib.Omega.{arith}
 use Rattle.laws.specs.Trials.{Trial, Says, answers, refuses, verdict}
 use Rattle.laws.proofs.Trials.{passed, passed_then, refused_then, refused_alike, AllTrials, all_refused, all_map, all_append}
+use Rattle.night.specs.Refusals.{number_of}
 use Rattle.format.specs.Layout.{file_length, header_of, as_read, night_of}
 use Rattle.model.specs.Candidates.{candidate_set}
 use Rattle.trials.specs.Trials.{record_trials, tree_trials, trials, check_of}
@@ -54,7 +55,7 @@ codes_told =
       check = λ s n p e. rw e (told n p (refusals_fit.file s n p (refused_alike (trials s) (header_of s) tt n p e)));
       candidates = λ s i n p e. rw e (told n p (refusals_fit.file s n p (refused_alike (trials s) (candidate_set (night_of s) i) tt n p e)));
       why = λ s i q n p small e. rw e (told n p (refusals_fit.why s i q n p small (refused_alike (why_trials s i q) _ tt n p e)));
-      cheapest = λ s before after n p says. told n p (refusals_fit.cheapest s before n p says.0);
+      cheapest = λ s before after r says. told (number_of r.reason) r.place (refusals_fit.cheapest s before (number_of r.reason) r.place says.0);
       write = λ vs room n p e. rw e (told n p (write_fits vs room n p e));
-      offered = λ s offer before after n p says. told n p (refusals_fit.offered s offer before n p says.0);
+      offered = λ s offer before after r says. told (number_of r.reason) r.place (refusals_fit.offered s offer before (number_of r.reason) r.place says.0);
     }

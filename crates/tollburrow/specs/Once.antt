@@ -2,7 +2,7 @@
 -- each number, nothing is to be said here.
 use Rattle.std.specs.Prelude.{ℕ, ◌≡◌, List}
 use Rattle.laws.specs.Trials.{answers}
-use Rattle.model.specs.declared.Standing.{Standing}
+use Rattle.model.specs.Reasons.{Standing}
 use Rattle.verdicts.specs.Refusals.{Rooms}
 use Rattle.planning.specs.Answers.{why_of}
 use Rattle.writes.specs.Values.{Values}

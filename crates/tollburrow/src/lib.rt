@@ -1,63 +1,23 @@
 // The planner for programs in C and Rust: every function says 0, or the refusal as its number times 2^32 and its place. A refusal writes nothing anywhere.
 #![tactic(auto)]
 
-ghost use Rattle.std.specs.Prelude.{◌≡◌, [], ◌+◌, ◌*◌};
-ghost use Rattle.reading.specs.Answers.{said_of};
+ghost use Rattle.std.specs.Prelude.{◌≡◌, []};
+ghost use Rattle.night.specs.Refusals.{number_of};
 ghost use Rattle.trials.specs.Trials.{check_of};
-ghost use Rattle.planning.specs.Answers.{candidates_said, candidates_of, why_of};
+ghost use Rattle.planning.specs.Answers.{candidates_of, why_of};
 ghost use Rattle.verdicts.specs.Refusals.{Rooms};
-ghost use Rattle.writing.specs.Answers.{written_said};
-ghost use Rattle.tollburrow.specs.Codes.{code_of, or_else, cheapest_code, offered_code, GrantsOut, CandidatesOut, StandingOut};
-ghost use Rattle.tollburrow.specs.Codes.{CheapestOut, OfferedOut, WriteOut};
+ghost use Rattle.tollburrow.specs.Codes.{refusal_code, code_of, GrantsOut, CandidatesOut, StandingOut, CheapestOut, OfferedOut, WriteOut};
 
+use encoding::values::Values;
 use layout::places;
+use night::refusals::Refusal;
 use night::{Grant, Header, Node, Relation};
-use planning::{CandidateSet, CheapestPlan, OfferedPlan, SubjectStanding};
-use reading::Checked;
-use writing::Written;
 
 // A refusal as one number.
-fn code(number: u8, place: u32) -> u64
-    ensures { result ≡ number * 4294967296 + place }
+fn code(refusal: Refusal) -> u64
+    ensures { result ≡ refusal_code (number_of refusal.reason) refusal.place }
 {
-    (number as u64) * 4_294_967_296 + (place as u64)
-}
-
-// What each answer is as a number.
-fn checked_code(answer: Checked) -> u64
-    ensures { result ≡ code_of (said_of answer) }
-{
-    match answer {
-        Checked::Refused { number, place } => code(number, place),
-        Checked::Accepted(_) => 0,
-    }
-}
-
-fn set_code(answer: CandidateSet) -> u64
-    ensures { result ≡ code_of (candidates_said answer) }
-{
-    match answer {
-        CandidateSet::Refused { number, place } => code(number, place),
-        CandidateSet::Among(_) => 0,
-    }
-}
-
-fn cheapest_code(answer: CheapestPlan) -> u64
-    ensures { result ≡ cheapest_code answer }
-{
-    match answer {
-        CheapestPlan::Refused { number, place } => code(number, place),
-        CheapestPlan::Cheapest { total: _, steps: _ } => 0,
-    }
-}
-
-fn offered_code(answer: OfferedPlan) -> u64
-    ensures { result ≡ offered_code answer }
-{
-    match answer {
-        OfferedPlan::Refused { number, place } => code(number, place),
-        OfferedPlan::Offered { total: _ } => 0,
-    }
+    (refusal.reason.number() as u64) * 4_294_967_296 + (refusal.place as u64)
 }
 
 // The verdict on a file.
@@ -65,7 +25,10 @@ fn offered_code(answer: OfferedPlan) -> u64
 pub extern "C" fn tollburrow_check(file: &[u8]) -> u64
     ensures { result ≡ code_of (check_of file.now) }
 {
-    checked_code(reading::check(file))
+    match reading::check(file) {
+        Ok(_) => 0,
+        Err(refusal) => code(refusal),
+    }
 }
 
 // Where the grant records lie in the file.
@@ -73,15 +36,16 @@ pub extern "C" fn tollburrow_check(file: &[u8]) -> u64
 pub extern "C" fn tollburrow_grant_records(file: &[u8], from: &mut u64, length: &mut u64) -> u64
     ensures { GrantsOut (check_of file.now) from.old length.old from.new length.new result }
 {
-    let answer = reading::check(file);
-    let Checked::Accepted(h) = answer else {
-        return checked_code(answer);
-    };
-    let start = places::grants_from(h);
-    let end = places::nodes_from(h);
-    *from = start as u64;
-    *length = (end - start) as u64;
-    0
+    match reading::check(file) {
+        Ok(h) => {
+            let start = places::grants_from(h);
+            let end = places::nodes_from(h);
+            *from = start as u64;
+            *length = (end - start) as u64;
+            0
+        }
+        Err(refusal) => code(refusal),
+    }
 }
 
 // The candidates of a node.
@@ -89,12 +53,13 @@ pub extern "C" fn tollburrow_grant_records(file: &[u8], from: &mut u64, length: 
 pub extern "C" fn tollburrow_candidates(file: &[u8], node: usize, set: &mut u16) -> u64
     ensures { CandidatesOut (candidates_of file.now node) set.old set.new result }
 {
-    let answer = planning::candidates(file, node);
-    let CandidateSet::Among(among) = answer else {
-        return set_code(answer);
-    };
-    *set = among;
-    0
+    match planning::candidates(file, node) {
+        Ok(among) => {
+            *set = among;
+            0
+        }
+        Err(refusal) => code(refusal),
+    }
 }
 
 // How a subject stands to a step: table, condition and set, all 0 for a candidate.
@@ -112,23 +77,19 @@ pub extern "C" fn tollburrow_why(
         table.new condition.new set.new result }
 {
     match planning::why(file, node, subject) {
-        SubjectStanding::Candidate => {
+        Ok(None) => {
             *table = 0;
             *condition = 0;
             *set = 0;
             0
         }
-        SubjectStanding::Out {
-            table: k,
-            condition: c,
-            set: named,
-        } => {
-            *table = k;
-            *condition = c;
-            *set = named;
+        Ok(Some(out)) => {
+            *table = out.table;
+            *condition = out.condition;
+            *set = out.set;
             0
         }
-        SubjectStanding::Refused { number, place } => code(number, place),
+        Err(refusal) => code(refusal),
     }
 }
 
@@ -147,17 +108,14 @@ pub extern "C" fn tollburrow_cheapest(
         (record { choice = choice.exit.now; plan = plan.new; keys = keys.new })
         total.old steps.old total.new steps.new result }
 {
-    let answer = planning::cheapest(file, choice, plan, keys);
-    let CheapestPlan::Cheapest {
-        total: cost,
-        steps: counted,
-    } = answer
-    else {
-        return cheapest_code(answer);
-    };
-    *total = cost;
-    *steps = counted;
-    0
+    match planning::cheapest(file, choice, plan, keys) {
+        Ok(cheapest) => {
+            *total = cheapest.total;
+            *steps = cheapest.steps;
+            0
+        }
+        Err(refusal) => code(refusal),
+    }
 }
 
 // The plan for an offered choice.
@@ -174,24 +132,12 @@ pub extern "C" fn tollburrow_offered(
         (record { choice = []; plan = plan.new; keys = keys.new })
         total.old total.new result }
 {
-    let answer = planning::offered(file, offer, plan, keys);
-    let OfferedPlan::Offered { total: cost } = answer else {
-        return offered_code(answer);
-    };
-    *total = cost;
-    0
-}
-
-// What the writer answers, as a number; how many bytes were written goes where it is asked for.
-fn write_code(answer: Written, written: &mut u64) -> u64
-    ensures { (result ≡ code_of (written_said answer)) × (written.new ≡ or_else (written_said answer) written.old) }
-{
-    match answer {
-        Written::Bytes(n) => {
-            *written = n as u64;
+    match planning::offered(file, offer, plan, keys) {
+        Ok(cost) => {
+            *total = cost;
             0
         }
-        Written::Refused { number, place } => code(number, place),
+        Err(refusal) => code(refusal),
     }
 }
 
@@ -220,7 +166,20 @@ pub extern "C" fn tollburrow_write<'h, 'a, 'p, 'r, 'w>(
         })
         room.old room.new written.old written.new result }
 {
-    let h = *header;
-    let answer = writing::write(h, relations, grants, nodes, pairs, steps, links, room);
-    write_code(answer, written)
+    let values = Values {
+        header: *header,
+        relations,
+        grants,
+        nodes,
+        pairs,
+        step_prices: steps,
+        link_prices: links,
+    };
+    match writing::write(&values, room) {
+        Ok(n) => {
+            *written = n as u64;
+            0
+        }
+        Err(refusal) => code(refusal),
+    }
 }

@@ -1,26 +1,24 @@
 -- Versions without days, and files that differ in days alone.
-use Prim.Native.Nat.{ℕ, ◌<◌, ◌+◌, ◌*◌}
-use mathlib.Core.Path.{◌≡◌, refl, ap, ◌∙◌}
+use Prim.Native.Nat.{ℕ}
+use mathlib.Core.Path.{◌≡◌, refl, ap}
 use mathlib.Core.Bool.{Bool}
-use mathlib.Core.List.{List, [], ◌∷◌, ◌++◌}
+use mathlib.Core.List.{[], ◌∷◌, ◌++◌}
 use native.Mathlib.Omega.{arith}
 use lib.Dec.{ltb}
-use lib.ListN.{get_or}
 use Rattle.std.specs.Prelude.{if◌then◌else◌}
 use Rattle.laws.specs.First.{somewhere}
-use Rattle.laws.specs.Trials.{Trial, trial, rows}
+use Rattle.laws.specs.Trials.{trial, rows}
 use Rattle.laws.proofs.First.{first_same}
 use Rattle.laws.proofs.Upwards.{each_at}
-use Rattle.night.specs.Versions.{last_kind, has_pairs}
+use Rattle.night.specs.Versions.{last_kind}
 use Rattle.night.specs.Night.{Night, no_grant, relation_of, grant_of, node_of, pair_of, step_price, link_price}
 use Rattle.night.specs.Kinds.{taken, visibles, visible_step, reads, read_together, pairs_read, its_pair}
-use Rattle.night.specs.Views.{is_for, is_for_on, view_of}
-use Rattle.night.specs.Days.{Always, in_version, ButDays}
+use Rattle.night.specs.Views.{is_for, is_for_on}
+use Rattle.night.specs.Days.{in_version, ButDays}
 use Rattle.night.proofs.Days.{view_same, always_for}
-use Rattle.format.specs.Layout.{header_of, grant_at, night_in, night_of}
+use Rattle.format.specs.Layout.{header_of, grant_at, night_in}
 use Rattle.trials.specs.Rules.{owner_bad, shape_bad, pair_bad, pairs_bad, needed_bad, grant_bad, relation_bad, leaf_bad, names_bad, left_over, subject_there}
 use Rattle.trials.specs.Trials.{taken_before, pair_seen, leaf_before, attributes_bad, price_in, most_in, count_in, trials_of, section, left_trials, record_trials, tree_trials}
-use Rattle.trials.specs.declared.Section.{Section}
 use Rattle.trials.specs.declared.Section.TheVariants.{Relations, Grants, Owners, Nodes, Parents, Prices}
 use Rattle.trials.specs.Days.{OlderAlways, OlderPairs, AlwaysRead}
 

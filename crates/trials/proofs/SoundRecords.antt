@@ -17,7 +17,7 @@ use Rattle.sets.proofs.Members.{within_exactly, apart_exactly, in_unions, in_non
 use Rattle.sets.proofs.Words.{in_below}
 use Rattle.night.specs.declared.Header.{Header}
 use Rattle.night.specs.Night.{Night, relation_of, grant_of}
-use Rattle.night.specs.Views.{any_subject, shares_day, is_for_on, view_on, view_of}
+use Rattle.night.specs.Views.{any_subject, shares_day, is_for_on, view_of}
 use Rattle.night.proofs.Views.{is-for, no_grants}
 use Rattle.night.specs.Versions.{delivers}
 use Rattle.night.specs.Promised.{SoundCounts, SoundRelation, SoundGrant, OwnersSee}

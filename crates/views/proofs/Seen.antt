@@ -16,7 +16,7 @@ module _ {j : ℕ} (N : Night) (day p r : ℕ) (own : j ≡ grant_on N day r p) 
       → v ≡ view_on N day p r
   any_read none any found read seen = seen ∙ ap seen_by (read ∙ ap (grant_of N) any) ∙ sym (any_serves N day p r (rw own at none) (rw any at found))
 
-  pub none_read : {k : ℕ} → N.header.grants ≤ j → k ≡ grant_on N day r any_subject → N.header.grants ≤ k → ◌≡◌ {A = View} (record { clear = 0; sealed = 0 }) (view_on N day p r)
+  pub none_read : {k : ℕ} {v : View} → N.header.grants ≤ j → k ≡ grant_on N day r any_subject → N.header.grants ≤ k → (v.clear ≡ 0) × (v.sealed ≡ 0) → v ≡ view_on N day p r
   unfolding view_on
-  none_read none any none_any =
-      rw (le-ltb (grant_on N day r p) N.header.grants (rw own at none), le-ltb (grant_on N day r any_subject) N.header.grants (rw any at none_any)) refl
+  none_read none any none_any zero =
+      rw (zero.0, zero.1, le-ltb (grant_on N day r p) N.header.grants (rw own at none), le-ltb (grant_on N day r any_subject) N.header.grants (rw any at none_any)) refl

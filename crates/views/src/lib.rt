@@ -3,36 +3,27 @@
 
 mod grants;
 
-ghost use Rattle.std.specs.Prelude.{◌≡◌, min, ◌≤◌};
+ghost use Rattle.std.specs.Prelude.{◌≡◌, ◌≤◌};
 ghost use Rattle.laws.specs.First.{first};
-ghost use Rattle.format.specs.Layout.{night_in};
+ghost use Rattle.layout.specs.Held.{night_held};
 ghost use Rattle.night.specs.Night.{grant_of};
 ghost use Rattle.night.specs.Views.{is_for, shares_day, in_force, is_for_on, seen_by, view_on};
-ghost use Rattle.views.specs.Stretch.{at_once, Next};
+ghost use Rattle.views.specs.Stretch.{Next};
 
-use layout::values;
-use night::{Grant, Header, View};
-
-// How many of the n grants that are left are decoded next.
-fn stretch(n: usize) -> usize
-    ensures { result ≡ min n at_once }
-{
-    if n < grants::AT_ONCE {
-        return n;
-    }
-    grants::AT_ONCE
-}
+use layout::PlanFile;
+use night::{Grant, View};
 
 // The number of the next of the first n grants, from number `start` on, that is on relation r to subject p, or n where there is none. They are
 // gone through in stretches, and none is decoded after the stretch that has it.
-fn next_grant(file: &[u8], h: Header, r: u8, p: u8, start: usize, n: usize) -> usize
+fn next_grant(file: &PlanFile<'_>, r: u8, p: u8, start: usize, n: usize) -> usize
     requires { start ≤ n }
-    ensures { Next (λ k. is_for (grant_of (night_in file.now h) k) r p) start n result }
+    ensures { Next (λ k. is_for (grant_of (night_held file.now) k) r p) start n result }
 {
+    // no `for`: a turn goes on by a whole stretch
     let mut from = start;
     while from < n {
-        let m = stretch(n - from);
-        let found = grants::find_from(file, h, from, m, r, p);
+        let m = (n - from).min(grants::AT_ONCE);
+        let found = grants::find_from(file, from, m, r, p);
         if found < m {
             return from + found;
         }
@@ -46,13 +37,7 @@ fn next_grant(file: &[u8], h: Header, r: u8, p: u8, start: usize, n: usize) -> u
 fn shares_day(g: Grant, from: u16, to: u16) -> bool
     ensures { result ≡ shares_day g from to }
 {
-    if to < g.first {
-        return false;
-    }
-    if g.last < from {
-        return false;
-    }
-    true
+    g.first <= to && from <= g.last
 }
 
 // Whether the grant is in force on the day.
@@ -63,16 +48,17 @@ pub fn in_force(g: Grant, day: u16) -> bool
 }
 
 // The number of the first of the first n grants that is on relation r to subject p and shares a day with those from `from` to `to`, or n where there is none.
-pub fn first_grant(file: &[u8], h: Header, r: u8, p: u8, from: u16, to: u16, n: usize) -> usize
-    ensures { result ≡ first (λ k. is_for_on (grant_of (night_in file.now h) k) r p from to) n }
+pub fn first_grant(file: &PlanFile<'_>, r: u8, p: u8, from: u16, to: u16, n: usize) -> usize
+    ensures { result ≡ first (λ k. is_for_on (grant_of (night_held file.now) k) r p from to) n }
 {
+    // no `for`: a turn goes on behind the grant that was found
     let mut at: usize = 0;
     while at < n {
-        let j = next_grant(file, h, r, p, at, n);
+        let j = next_grant(file, r, p, at, n);
         if n <= j {
             return n;
         }
-        if shares_day(values::grant(file, h, j), from, to) {
+        if shares_day(file.grant(j), from, to) {
             return j;
         }
         at = j + 1;
@@ -91,20 +77,17 @@ fn seen_by(g: Grant) -> View
 }
 
 // The view of relation r that subject p has on a day: its own grant in force, or else the grant to any (255) in force, or else nothing.
-pub fn view(file: &[u8], h: Header, day: u16, p: u8, r: u8) -> View
-    ensures { result ≡ view_on (night_in file.now h) day p r }
+pub fn view(file: &PlanFile<'_>, day: u16, p: u8, r: u8) -> View
+    ensures { result ≡ view_on (night_held file.now) day p r }
 {
-    let n = h.grants as usize;
-    let own = first_grant(file, h, r, p, day, day, n);
+    let n = file.header.grants as usize;
+    let own = first_grant(file, r, p, day, day, n);
     if own < n {
-        return seen_by(values::grant(file, h, own));
+        return seen_by(file.grant(own));
     }
-    let other = first_grant(file, h, r, 255, day, day, n);
+    let other = first_grant(file, r, 255, day, day, n);
     if other < n {
-        return seen_by(values::grant(file, h, other));
+        return seen_by(file.grant(other));
     }
-    View {
-        clear: 0,
-        sealed: 0,
-    }
+    View::default()
 }

@@ -1,3 +1,2 @@
 -- What the writer answers.
 pub mod Answers
-pub mod Prices

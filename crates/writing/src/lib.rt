@@ -1,169 +1,130 @@
 // Writing a plan file: from its values, as reading gives them, into lent room. Any values may come in; a refusal writes nothing.
 #![tactic(auto)]
 
-mod again;
-mod lent;
-mod taken;
+ghost use Rattle.std.specs.Prelude.{◌≡◌, ◌<◌, ℕ, length, get_or};
+ghost use Rattle.night.specs.Night.{relation_of, grant_of, node_of, no_relation, no_grant, no_node};
+ghost use Rattle.format.specs.Layout.{nth_price};
+ghost use Rattle.layout.specs.Held.{night_held};
+ghost use Rattle.encoding.specs.Encoded.{values_of};
+ghost use Rattle.writing.specs.Answers.{WriteSays, RewriteSays, JudgedSays};
 
-ghost use Rattle.std.specs.Prelude.{◌≡◌, ◌++◌, ◌≤◌, length, drop};
-ghost use Rattle.writes.specs.Values.{Values};
-ghost use Rattle.encoding.specs.Encoded.{Handed};
-ghost use Rattle.writing.specs.Answers.{WriteSays, RewriteSays, JudgedSays, passed_up, counted_up};
+use encoding::values::Values;
+use layout::{PlanFile, places};
+use night::refusals::{Reason, Refusal};
+use night::{Grant, Node, Relation};
 
-use encoding::{Counted, MOST_GRANTS, MOST_NODES, MOST_RELATIONS};
-use layout::places;
-use night::{Grant, Header, Node, Relation, versions};
-use reading::Checked;
+// The most records of each kind that a file may have, and the most prices: a step price for each node and subject, a link price for each two subjects.
+const MOST_RELATIONS: usize = 16;
 
-// What came of the values: how many bytes were written, or the refusal.
-#[derive(Clone, Copy)]
-pub enum Written {
-    Bytes(usize),
-    Refused { number: u8, place: u32 },
-}
+const MOST_GRANTS: usize = 272;
 
-// The file of these values, written into the room: the records in the file's order, the pairs as they stand in it, two bytes each, prices row after row.
+const MOST_NODES: usize = 64;
+
+const MOST_PRICES: usize = 1280;
+
+// The file of these values, written into the room. Says how many bytes it has.
 // A field that the version doesn't have is dropped without a word. So is a user with version 1: that file is never refused with 17, and delivers to nobody.
-pub fn write<'a, 'p, 'r>(
-    h: Header,
-    relations: &'a [Relation],
-    grants: &'a [Grant],
-    nodes: &'a [Node],
-    pairs: &'p [u8],
-    steps: &'p [u32],
-    links: &'p [u32],
-    room: &'r mut [u8],
-) -> Written
-    ensures { WriteSays
-        (record {
-          header = h;
-          relations = relations.now;
-          grants = grants.now;
-          nodes = nodes.now;
-          pairs = pairs.now;
-          step_prices = steps.now;
-          link_prices = links.now;
-        })
-        room.old room.new result }
+pub fn write(values: &Values<'_>, room: &mut [u8]) -> Result<usize, Refusal>
+    ensures { WriteSays (values_of values.now) room.old room.new result }
 {
-    let first = taken::relations(relations);
-    let second = taken::grants(grants);
-    let third = taken::nodes(nodes);
-    write_taken(
-        h,
-        first,
-        relations.len(),
-        second,
-        grants.len(),
-        third,
-        nodes.len(),
-        pairs,
-        steps,
-        links,
-        room,
-    )
-}
-
-// The same from arrays, with how many records there are.
-fn write_taken<'p, 'r>(
-    h: Header,
-    relations: [Relation; MOST_RELATIONS],
-    r: usize,
-    grants: [Grant; MOST_GRANTS],
-    g: usize,
-    nodes: [Node; MOST_NODES],
-    n: usize,
-    pairs: &'p [u8],
-    steps: &'p [u32],
-    links: &'p [u32],
-    room: &'r mut [u8],
-) -> Written
-    ensures { (vs : Values)
-        → Handed vs h relations r grants g nodes n pairs.now steps.now links.now
-        → WriteSays vs room.old room.new result }
-{
-    let made = encoding::encode(h, relations, r, grants, g, nodes, n, pairs, steps, links);
-    let answer = made.answer;
-    let Counted::Right = answer else {
-        return uncounted(answer);
-    };
-    let file = made.file;
-    let end = places::file_length(h);
+    let file = encoding::encode(values)?;
+    let end = places::file_length(values.header);
     judged(&file[..end], room)
 }
 
-// The refusal of 2, 4 or 3, passed up. (Values that are right are never handed in.)
-fn uncounted(answer: Counted) -> Written
-    ensures { result ≡ counted_up answer }
-{
-    match answer {
-        Counted::Refused { number } => Written::Refused { number, place: 0 },
-        Counted::Right => Written::Bytes(0),
-    }
-}
-
-// A file as reading judges it, and then copied into the room, where that is long enough.
-fn judged(file: &[u8], room: &mut [u8]) -> Written
+// A file as reading judges it, and then copied to the front of the room, where that is long enough; what lies beyond stays.
+fn judged(file: &[u8], room: &mut [u8]) -> Result<usize, Refusal>
     ensures { JudgedSays file.now room.old room.new result }
 {
-    let answer = reading::check(file);
-    let Checked::Accepted(_) = answer else {
-        return refused(answer);
-    };
-    if room.len() < file.len() {
-        return Written::Refused {
-            number: 15,
+    reading::check(file)?;
+    let end = file.len();
+    if room.len() < end {
+        return Err(Refusal {
+            reason: Reason::ShortRoom,
             place: 4,
-        };
+        });
     }
-    copy_front(room, file);
-    Written::Bytes(file.len())
+    room[..end].copy_from_slice(file);
+    Ok(end)
 }
 
-// Reading's refusal, passed up. (An acceptance is never handed in.)
-fn refused(answer: Checked) -> Written
-    ensures { result ≡ passed_up answer }
+// The relations of a file, as many as one may have. (An array by a closure over this and the next three is no plainer: what is promised of its entries unfolds
+// once for each.)
+fn relations(file: &PlanFile<'_>) -> [Relation; MOST_RELATIONS]
+    ensures long { length result ≡ 16 }
+    ensures each { (k : ℕ) → k < 16 → get_or result k no_relation ≡ relation_of (night_held file.now) k }
 {
-    match answer {
-        Checked::Refused { number, place } => Written::Refused { number, place },
-        Checked::Accepted(_) => Written::Bytes(0),
+    let mut all = [Relation::default(); MOST_RELATIONS];
+    for i in 0..MOST_RELATIONS {
+        all[i] = file.relation(i);
     }
+    all
 }
 
-// A file, copied to the front of a room; what lies beyond stays.
-fn copy_front(room: &mut [u8], file: &[u8])
-    requires { length file.now ≤ length room.old }
-    ensures { room.new ≡ file.now ++ drop (length file.now) room.old }
+// The grants.
+fn grants(file: &PlanFile<'_>) -> [Grant; MOST_GRANTS]
+    ensures long { length result ≡ 272 }
+    ensures each { (k : ℕ) → k < 272 → get_or result k no_grant ≡ grant_of (night_held file.now) k }
 {
-    let mut i: usize = 0;
-    while i < file.len() {
-        room[i] = file[i];
-        i += 1;
+    let mut all = [Grant::default(); MOST_GRANTS];
+    for i in 0..MOST_GRANTS {
+        all[i] = file.grant(i);
     }
+    all
+}
+
+// The nodes.
+fn nodes(file: &PlanFile<'_>) -> [Node; MOST_NODES]
+    ensures long { length result ≡ 64 }
+    ensures each { (k : ℕ) → k < 64 → get_or result k no_node ≡ node_of (night_held file.now) k }
+{
+    let mut all = [Node::default(); MOST_NODES];
+    for i in 0..MOST_NODES {
+        all[i] = file.node(i);
+    }
+    all
+}
+
+// The prices, step prices first.
+fn prices(file: &PlanFile<'_>) -> [u32; MOST_PRICES]
+    ensures long { length result ≡ 1280 }
+    ensures each { (k : ℕ) → k < 1280 → get_or result k 0 ≡ nth_price file.now.bytes.now file.now.header k }
+{
+    let mut all = [0; MOST_PRICES];
+    for i in 0..MOST_PRICES {
+        all[i] = file.price(i);
+    }
+    all
 }
 
 // The values of a file, as they stand in it, written again. A file whose header is refused has no values.
-pub fn rewrite(file: &[u8], room: &mut [u8]) -> Written
+pub fn rewrite(file: &[u8], room: &mut [u8]) -> Result<usize, Refusal>
     ensures { RewriteSays file.now room.old room.new result }
 {
-    let answer = reading::check_header(file);
-    let Checked::Accepted(h) = answer else {
-        return refused(answer);
+    let header = reading::check_header(file)?;
+    let held = PlanFile {
+        bytes: file,
+        header,
     };
-    let pairs = again::pairs(file, h);
-    let steps = again::prices(file, h, 0);
-    let links = again::prices(file, h, places::step_prices(h));
-    lent::write_lent(
-        h,
-        again::relations(file, h),
-        h.relations as usize,
-        again::grants(file, h),
-        h.grants as usize,
-        again::nodes(file, h),
-        h.nodes as usize,
-        &pairs[..versions::PAIR_LENGTH * places::pairs_in(h)],
-        &steps[..places::step_prices(h)],
-        &links[..places::link_prices(h)],
-        room,
-    )
+    let every_relation = relations(&held);
+    let every_grant = grants(&held);
+    let every_node = nodes(&held);
+    let every_price = prices(&held);
+    let relations = &every_relation[..header.relations as usize];
+    let grants = &every_grant[..header.grants as usize];
+    let nodes = &every_node[..header.nodes as usize];
+    let pairs = &file[places::pairs_from(header)..places::step_prices_from(header)];
+    let steps = places::step_prices(header);
+    let step_prices = &every_price[..steps];
+    let link_prices = &every_price[steps..steps + places::link_prices(header)];
+    let values = Values {
+        header,
+        relations,
+        grants,
+        nodes,
+        pairs,
+        step_prices,
+        link_prices,
+    };
+    write(&values, room)
 }

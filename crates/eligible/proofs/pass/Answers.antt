@@ -1,17 +1,17 @@
--- Reading's refusal with nothing beside it; else what the walk leaves.
-use mathlib.Core.Path.{refl, sym, ap, ◌∙◌}
-use Rattle.reading.specs.Answers.{said_of}
+-- Reading's refusal; else what the walk leaves.
+use mathlib.Core.Path.{sym}
+use Rattle.std.proofs.lemmas.Result.{err_from_is_err_and}
 use Rattle.trials.proofs.Promises.{accepted_sound}
 use Rattle.eligible.proofs.pass.Goals as goal
 
-pub returns-in_default : goal.returns-in_default
-returns-in_default c =
-    rw (c.refused.ensures, c.in_default.is) (sym c.check-answer.ensures ∙ ap said_of c.in_default.is, refl, refl, refl)
-
 pub passed-requires : goal.passed-requires
-passed-requires c =
-    accepted_sound c.args.file.now c.in-Accepted.h (sym c.check-answer.ensures ∙ ap said_of c.in-Accepted.is)
+passed-requires c = accepted_sound c.args.file.now c.in_ok-header.header (sym c.in_ok-header.ensures)
+
+pub returns-in_err-header : goal.returns-in_err-header
+returns-in_err-header c =
+    let p = err_from_is_err_and c.from_residual.result c.from_residual.ensures.1 in
+    rw (p.1, p.2) (sym c.in_err-header.ensures)
 
 pub returns : goal.returns
 returns c =
-    rw c.passed.ensures.0 (sym c.check-answer.ensures ∙ ap said_of c.in-Accepted.is, c.passed.ensures.1, c.passed.ensures.2, c.passed.ensures.3)
+    rw c.passed.ensures.0 (sym c.in_ok-header.ensures, c.passed.ensures.1, c.passed.ensures.2, c.passed.ensures.3)

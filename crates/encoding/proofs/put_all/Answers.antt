@@ -1,95 +1,46 @@
 -- Each section stands where the one before it ends.
 use native.Mathlib.Omega.{arith}
-use Rattle.encoding.proofs.Places.{places_of, pairs_few}
-use Rattle.encoding.proofs.Put.{kept_long}
-use Rattle.encoding.proofs.Whole.{all_put, held_fits}
+use Rattle.format.proofs.Written.{header_most}
+use Rattle.writes.proofs.Counted.{counted_of}
+use Rattle.encoding.specs.Encoded.{values_of}
+use Rattle.encoding.proofs.Places.{Within, within_of, places_of, pairs_few}
+use Rattle.encoding.proofs.Whole.{all_put}
 use Rattle.encoding.proofs.put_all.Goals as goal
+use Rattle.encoding.proofs.put_all.Goals.{After-put_header}
 
 pub put_header-requires : goal.put_header-requires
-put_header-requires c =
-    let h = c.args.h in
-    let places = places_of h c.requires.0 in
-    let short = places.short (pairs_few h (omega arith)) in
-    omega arith
+put_header-requires c = omega (arith, header_most c.args.values.now.header.version)
 
-pub put_relations-requires : goal.put_relations-requires
-put_relations-requires c =
-    let h = c.args.h in
-    let places = places_of h c.requires.0 in
-    let short = places.short (pairs_few h (omega arith)) in
-    let l0 = kept_long c.put_header.ensures.0 in
-    (omega arith, omega (arith, c.header_length-from.ensures.0))
+within : (c : After-put_header) → Within (values_of c.args.values.now)
+within c =
+    let vs = values_of c.args.values.now in
+    within_of vs (places_of vs.header c.requires.counts) (counted_of vs c.requires.as_many) (pairs_few vs.header c.put_header.ensures.in_range.1)
 
-pub put_grants-requires : goal.put_grants-requires
-put_grants-requires c =
-    let h = c.args.h in
-    let places = places_of h c.requires.0 in
-    let short = places.short (pairs_few h (omega arith)) in
-    let l0 = kept_long c.put_header.ensures.0 in
-    let l1 = kept_long c.put_relations.ensures.0 in
-    (omega arith, omega (arith, c.grants_from.ensures.0))
+pub put_records-requires : goal.put_records-requires
+put_records-requires c = omega (arith, c.header_length.ensures.0, within (goal.at.put_records-requires c).After-put_header)
 
-pub put_nodes-requires : goal.put_nodes-requires
-put_nodes-requires c =
-    let h = c.args.h in
-    let places = places_of h c.requires.0 in
-    let short = places.short (pairs_few h (omega arith)) in
-    let l0 = kept_long c.put_header.ensures.0 in
-    let l1 = kept_long c.put_relations.ensures.0 in
-    let l2 = kept_long c.put_grants.ensures.0 in
-    (omega arith, omega (arith, c.nodes_from.ensures.0))
+pub put_records-requires-2 : goal.put_records-requires-2
+put_records-requires-2 c = omega (arith, c.grants_from.ensures.0, within (goal.at.put_records-requires-2 c).After-put_header)
 
-pub put_pairs-requires : goal.put_pairs-requires
-put_pairs-requires c =
-    let h = c.args.h in
-    let places = places_of h c.requires.0 in
-    let short = places.short (pairs_few h (omega arith)) in
-    let l0 = kept_long c.put_header.ensures.0 in
-    let l1 = kept_long c.put_relations.ensures.0 in
-    let l2 = kept_long c.put_grants.ensures.0 in
-    let l3 = kept_long c.put_nodes.ensures.0 in
-    omega (arith, c.pairs_from.ensures.0)
+pub put_records-requires-3 : goal.put_records-requires-3
+put_records-requires-3 c = omega (arith, c.nodes_from.ensures.0, within (goal.at.put_records-requires-3 c).After-put_header)
 
-pub put_prices-requires : goal.put_prices-requires
-put_prices-requires c =
-    let h = c.args.h in
-    let places = places_of h c.requires.0 in
-    let short = places.short (pairs_few h (omega arith)) in
-    let l0 = kept_long c.put_header.ensures.0 in
-    let l1 = kept_long c.put_relations.ensures.0 in
-    let l2 = kept_long c.put_grants.ensures.0 in
-    let l3 = kept_long c.put_nodes.ensures.0 in
-    let l4 = kept_long c.put_pairs.ensures in
-    (omega arith, omega (arith, c.step_prices_from.ensures.0))
+pub put-requires : goal.put-requires
+put-requires c = omega (arith, c.pairs_from.ensures.0, within (goal.at.put-requires c).After-put_header)
 
-pub put_prices-requires-2 : goal.put_prices-requires-2
-put_prices-requires-2 c =
-    let h = c.args.h in
-    let places = places_of h c.requires.0 in
-    let short = places.short (pairs_few h (omega arith)) in
-    let l0 = kept_long c.put_header.ensures.0 in
-    let l1 = kept_long c.put_relations.ensures.0 in
-    let l2 = kept_long c.put_grants.ensures.0 in
-    let l3 = kept_long c.put_nodes.ensures.0 in
-    let l4 = kept_long c.put_pairs.ensures in
-    let l5 = kept_long c.put_prices.ensures.0 in
-    (omega arith, omega (arith, c.link_prices_from.ensures.0))
+pub put_records-requires-4 : goal.put_records-requires-4
+put_records-requires-4 c = omega (arith, c.step_prices_from.ensures.0, within (goal.at.put_records-requires-4 c).After-put_header)
 
-pub returns : goal.returns
-returns c =
-    let h = c.args.h in
-    let places = places_of h c.requires.0 in
-    let short = places.short (pairs_few h (omega arith)) in
-    let header = c.put_header.ensures in
-    let relations = c.put_relations.ensures in
-    let grants = c.put_grants.ensures in
-    let nodes = c.put_nodes.ensures in
-    let pairs = c.put_pairs.ensures in
-    let steps = c.put_prices.ensures in
-    let links = c.put_prices-2.ensures in (
-      all_put h c.args.relations c.args.grants c.args.nodes c.args.pairs.now c.args.steps.now c.args.links.now places c.requires.2 c.requires.3
-          c.header_length-from.ensures.0 c.grants_from.ensures.0 c.nodes_from.ensures.0 c.pairs_from.ensures.0 c.step_prices_from.ensures.0 c.link_prices_from.ensures.0
-          header.0 relations.0 grants.0 nodes.0 pairs steps.0 links.0,
-      held_fits h c.args.relations c.args.grants c.args.nodes c.args.pairs.now c.args.steps.now c.args.links.now header.1 relations.1 grants.1 nodes.1 steps.1 links.1,
-      short,
-    )
+pub put_records-requires-5 : goal.put_records-requires-5
+put_records-requires-5 c = omega (arith, c.link_prices_from.ensures.0, within (goal.at.put_records-requires-5 c).After-put_header)
+
+pub returns-clause-stored : goal.returns-clause-stored
+returns-clause-stored c =
+    let vs = values_of c.args.values.now in
+    all_put vs (places_of vs.header c.requires.counts) (counted_of vs c.requires.as_many)
+    c.header_length.ensures.0 c.grants_from.ensures.0 c.nodes_from.ensures.0 c.pairs_from.ensures.0 c.step_prices_from.ensures.0 c.link_prices_from.ensures.0
+    c.put_header.ensures.stored c.put_records.ensures.stored c.put_records-2.ensures.stored c.put_records-3.ensures.stored c.put.ensures
+    c.put_records-4.ensures.stored c.put_records-5.ensures.stored
+
+pub returns-clause-within : goal.returns-clause-within
+returns-clause-within c = (within (goal.at.returns-clause-within c).After-put_header).file_within

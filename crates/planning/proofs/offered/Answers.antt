@@ -1,38 +1,27 @@
 -- The offer's refusal is passed up; then the lowest short room refuses; then the rooms are filled.
 use mathlib.Core.List.{[]}
-use mathlib.Core.Path.{refl, sym, ap, ◌∙◌}
-use Rattle.format.specs.Layout.{night_in, night_of}
-use Rattle.choosing.specs.Answers.{offered_said}
-use Rattle.planning.proofs.Answered.{offered_promises, offered_uncosted, offered_short, offered_filled}
-use Rattle.planning.proofs.Short.{two_pass}
+use mathlib.Core.Path.{refl}
+use Rattle.std.proofs.lemmas.Result.{err_from_is_err_and}
+use Rattle.planning.proofs.Answered.{offered_uncosted, offered_short, offered_fits, offered_filled}
 use Rattle.planning.proofs.offered.Goals as goal
 
-pub returns-in_default : goal.returns-in_default
-returns-in_default c =
-    let told = c.in_default.is in
-    rw (c.uncosted.ensures, told)
-    (offered_uncosted c.args.file.now c.args.offer.now (record { choice = []; plan = c.args.plan.now; keys = c.args.keys.now }) _ _ (sym c.offered_choice-costed.ensures.0 ∙ ap offered_said told))
+pub returns-in_err-costed : goal.returns-in_err-costed
+returns-in_err-costed c =
+    let p = err_from_is_err_and c.from_residual.result c.from_residual.ensures.1 in
+    rw (p.1, p.2) (offered_uncosted c.args.file.now c.args.offer.now (record { choice = []; plan = c.args.plan.now; keys = c.args.keys.now }) _ c.in_err-costed.ensures)
 
-pub returns-then-of_two-ne0 : goal.returns-then-of_two-ne0
-unfolding night_in
-returns-then-of_two-ne0 c =
-    let said = sym c.offered_choice-costed.ensures.0 ∙ ap offered_said c.in-Costs.is in
-    offered_short c.args.file.now c.args.offer.now (record { choice = []; plan = c.args.plan.now; keys = c.args.keys.now }) _ c.short_of_two-of_two.result said (rw c.header-h.ensures at c.short_of_two-of_two.ensures) c.if-of_two-ne0.true
+pub returns-in_err-plan_fits : goal.returns-in_err-plan_fits
+returns-in_err-plan_fits c =
+    let p = err_from_is_err_and c.from_residual-in_err-plan_fits.result c.from_residual-in_err-plan_fits.ensures.1 in
+    rw (p.1, p.2)
+    (offered_short c.args.file.now c.args.offer.now c.header.result c.header.ensures (record { choice = []; plan = c.args.plan.now; keys = c.args.keys.now }) c.in_ok-costed.costed _
+    c.in_ok-costed.ensures c.in_err-plan_fits.ensures)
 
 pub fill_plan-requires : goal.fill_plan-requires
-unfolding night_in
 fill_plan-requires c =
-    let said = sym c.offered_choice-costed.ensures.0 ∙ ap offered_said c.in-Costs.is in
-    let short = c.short_of_two-of_two in
-    let fits = two_pass (night_of c.args.file.now) c.args.plan.now c.args.keys.now short.result (rw c.header-h.ensures at short.ensures) c.if-of_two-ne0.false in
-    let built = rw c.in-Costs.is at c.offered_choice-costed.ensures.1 in
-    rw c.header-h.ensures (offered_promises c.args.file.now c.args.offer.now _ said, built, fits.1, fits.2)
+    offered_fits c.args.file.now c.args.offer.now c.header.result c.header.ensures c.in_ok-costed.costed c.args.plan.now c.args.keys.now c.in_ok-costed.ensures c.in_ok-plan_fits.ensures
 
 pub returns : goal.returns
-unfolding night_in
 returns c =
-    let said = sym c.offered_choice-costed.ensures.0 ∙ ap offered_said c.in-Costs.is in
-    let plan = c.fill_plan in
-    offered_filled c.args.file.now c.args.offer.now (record { choice = []; plan = c.args.plan.now; keys = c.args.keys.now }) (record { choice = []; plan = plan.new.plan; keys = plan.new.keys }) _ c.short_of_two-of_two.result said
-    (rw c.header-h.ensures at c.short_of_two-of_two.ensures) c.if-of_two-ne0.false
-    (record { plan = rw c.header-h.ensures at plan.ensures.0; keys = rw c.header-h.ensures at plan.ensures.1 }) refl
+    offered_filled c.args.file.now c.args.offer.now c.header.result c.header.ensures c.in_ok-costed.costed (record { choice = []; plan = c.args.plan.now; keys = c.args.keys.now })
+    (record { choice = []; plan = c.fill_plan.new.plan; keys = c.fill_plan.new.keys }) c.in_ok-costed.ensures c.in_ok-plan_fits.ensures c.fill_plan.ensures refl

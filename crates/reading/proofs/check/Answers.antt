@@ -1,26 +1,27 @@
 -- The header's part, and the rest where it passes.
-use mathlib.Core.Path.{sym, ap, ◌∙◌}
-use Rattle.reading.specs.Answers.{tried_of}
+use mathlib.Core.Path.{◌≡◌, sym, ap, ◌∙◌}
+use Rattle.std.specs.Prelude.{Err}
+use Rattle.std.proofs.Common.{rules}
+use Rattle.night.specs.Refusals.{said}
 use Rattle.trials.proofs.Opened.{head_refused, body_refused, body_accepted, nodes_few}
 use Rattle.reading.proofs.check.Goals as goal
 
-pub returns-in_default : goal.returns-in_default
-returns-in_default c =
-    let failed = c.in_default.is in
-    rw (c.refused.ensures, failed) (sym (head_refused c.args.file.now _ _ (sym c.header_tried-head.ensures ∙ ap tried_of failed)))
+pub returns-in_err-header_tried : goal.returns-in_err-header_tried
+returns-in_err-header_tried c =
+    let same : c.from_residual.result ≡ Err c.in_err-header_tried.field-0.0 = search rules in
+    rw same (sym (head_refused c.args.file.now _ _ (sym c.header_tried.ensures ∙ ap said c.in_err-header_tried.was)))
 
-pub night_tried-body-requires : goal.night_tried-body-requires
-night_tried-body-requires c =
-    nodes_few c.args.file.now c.header-h.result c.header-h.ensures (sym c.header_tried-head.ensures ∙ ap tried_of c.in-Passed.is)
+pub night_tried-requires : goal.night_tried-requires
+night_tried-requires c =
+    nodes_few c.args.file.now c.header-header.result c.header-header.ensures (sym c.header_tried.ensures ∙ ap said c.in_ok-header_tried.was)
 
-pub returns-in_default-body : goal.returns-in_default-body
-returns-in_default-body c =
-    let failed = c.in_default-body.is in
-    let passed = sym c.header_tried-head.ensures ∙ ap tried_of c.in-Passed.is in
-    rw (c.refused-in_default-body.ensures, failed)
-    (sym (body_refused c.args.file.now c.header-h.result c.header-h.ensures passed _ _ (sym c.night_tried-body.ensures ∙ ap tried_of failed)))
+pub returns-in_err-night_tried : goal.returns-in_err-night_tried
+returns-in_err-night_tried c =
+    let same : c.from_residual-in_err-night_tried.result ≡ Err c.in_err-night_tried.field-0.0 = search rules in
+    let passed = sym c.header_tried.ensures ∙ ap said c.in_ok-header_tried.was in
+    rw same (sym (body_refused c.args.file.now c.header-header.result c.header-header.ensures passed _ _ (sym c.night_tried.ensures ∙ ap said c.in_err-night_tried.was)))
 
 pub returns : goal.returns
 returns c =
-    let passed = sym c.header_tried-head.ensures ∙ ap tried_of c.in-Passed.is in
-    sym (body_accepted c.args.file.now c.header-h.result c.header-h.ensures passed (sym c.night_tried-body.ensures ∙ ap tried_of c.in-Passed-body.is))
+    let passed = sym c.header_tried.ensures ∙ ap said c.in_ok-header_tried.was in
+    sym (body_accepted c.args.file.now c.header-header.result c.header-header.ensures passed (sym c.night_tried.ensures ∙ ap said c.in_ok-night_tried.was))

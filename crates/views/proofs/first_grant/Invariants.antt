@@ -19,7 +19,7 @@ abbrev test : List ℕ → Header → ℕ → ℕ → ℕ → ℕ → ℕ → Bo
 test s h r p from to k = is_for_on (grants s h k) r p from to
 
 abbrev pub invariant-loop-at : goal.invariant-loop-at
-invariant-loop-at l = (l.at ≤ l.n) × (first (test l.file l.h l.r l.p l.from l.to) l.at ≡ l.at)
+invariant-loop-at l = (l.at ≤ l.n) × (first (test l.file.bytes.now l.file.header l.r l.p l.from l.to) l.at ≡ l.at)
 
 abbrev pub decreases-loop-at : goal.decreases-loop-at
 decreases-loop-at l = l.n - l.at

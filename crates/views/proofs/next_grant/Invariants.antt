@@ -14,7 +14,7 @@ abbrev test : List ℕ → Header → ℕ → ℕ → ℕ → Bool
 test s h r p k = is_for (grant_of (night_in s h) k) r p
 
 abbrev pub invariant-loop-from : goal.invariant-loop-from
-invariant-loop-from l = (l.start ≤ l.from) × (l.from ≤ l.n) × ((k : ℕ) → l.start ≤ k → k < l.from → test l.file l.h l.r l.p k ≡ false)
+invariant-loop-from l = (l.start ≤ l.from) × (l.from ≤ l.n) × ((k : ℕ) → l.start ≤ k → k < l.from → test l.file.bytes.now l.file.header l.r l.p k ≡ false)
 
 abbrev pub decreases-loop-from : goal.decreases-loop-from
 decreases-loop-from l = l.n - l.from

@@ -1,21 +1,14 @@
 -- A child that is used is handed over.
-use native.Mathlib.Omega.{arith}
-use mathlib.Core.Path.{refl}
+use Rattle.layout.specs.Held.{night_held}
 use Rattle.format.specs.Layout.{night_in}
 use lib.ListN.{get_or}
-use Rattle.laws.proofs.Cases.{yes_is, no_is}
+use Rattle.laws.proofs.Cases.{yes_is}
 use Rattle.choosing.proofs.Offers.{handed_made, handed_most}
 use Rattle.choosing.proofs.offer.handed_over.Goals as goal
-
-pub bounds-offer-child : goal.bounds-offer-child
-bounds-offer-child c = omega (arith, c.requires.2, c.requires.4 c.if-used.true)
 
 pub returns-then-used : goal.returns-then-used
 unfolding night_in
 returns-then-used c =
-    let N = night_in c.args.file.now c.args.h in
-    let same = handed_made N c.args.k c.node-v.result c.node-v.ensures (λ j. get_or c.args.offer.now j 0) c.args.i c.handed.result c.handed.ensures in
+    let N = night_held c.args.file.now in
+    let same = handed_made N c.args.k c.node.result c.node.ensures (λ j. get_or c.args.offer.now j 0) c.args.i c.handed.result c.handed.ensures in
     (yes_is _ _ _ _ c.if-used.true same, rw same (handed_most N c.requires.0 (λ j. get_or c.args.offer.now j 0) c.requires.1 c.args.i c.args.k c.requires.3 (c.requires.4 c.if-used.true)))
-
-pub returns : goal.returns
-returns c = (no_is _ _ _ _ c.if-used.false refl, omega arith)

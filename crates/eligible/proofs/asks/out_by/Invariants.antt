@@ -1,5 +1,5 @@
 -- The subjects so far, one more a turn.
-use Prim.Native.Nat.{ℕ, ◌≤◌, ◌-◌}
+use Prim.Native.Nat.{ℕ}
 use mathlib.Core.Path.{◌≡◌}
 use mathlib.Core.List.{List}
 use lib.ListN.{get_or}
@@ -13,7 +13,4 @@ abbrev asked : ℕ → List ℕ → List ℕ → ℕ → ℕ
 asked set clear sealed p = if splits set (get_or clear p 0) (get_or sealed p 0) then single 16 p else 0
 
 abbrev pub invariant-loop-p : goal.invariant-loop-p
-invariant-loop-p l = (l.p ≤ l.s) × (l.out ≡ unions (asked l.set l.clear l.sealed) l.p)
-
-abbrev pub decreases-loop-p : goal.decreases-loop-p
-decreases-loop-p l = l.s - l.p
+invariant-loop-p l = l.out ≡ unions (asked l.set l.seen.clear l.seen.sealed) l.p

@@ -1,7 +1,6 @@
--- The subjects so far, one more a turn.
-use Prim.Native.Nat.{ℕ, ◌-◌}
-use mathlib.Core.Path.{◌≡◌, sym, ap, ◌∙◌}
-use mathlib.Core.Bool.{Bool}
+-- The subjects so far, one more a turn where it passes.
+use Prim.Native.Nat.{ℕ}
+use mathlib.Core.Path.{◌≡◌, refl, sym, ◌∙◌}
 use mathlib.Core.List.{List, []}
 use native.Mathlib.Omega.{arith}
 use lib.ListN.{get_or}
@@ -12,24 +11,28 @@ use Rattle.model.specs.Candidates.{clear_offends, sealed_offends}
 use Rattle.model.specs.OneTest.{passes_both}
 use Rattle.tables.specs.declared.Columns.{Columns}
 use Rattle.tables.specs.Columns.{with_tied}
+use Rattle.eligible.proofs.Asked.{unions_kept}
 use Rattle.eligible.proofs.asks.passing.Goals as goal
+use Rattle.eligible.proofs.asks.passing.Goals.{then-passes_both, else-passes_both}
 
 -- what is asked of subject p; of the tied sets nothing is
 abbrev asked : Columns → List ℕ → List ℕ → ℕ → ℕ
 asked t clear sealed p = if passes_both (with_tied t []) (get_or clear p 0) (get_or sealed p 0) then single 16 p else 0
 
 pub loop-p-init : goal.loop-p-init
-loop-p-init c = (omega arith, sym (unions_none _))
+loop-p-init c = sym (unions_none _)
 
 pub loop-p-preserved : goal.loop-p-preserved
 loop-p-preserved c =
-    let f = (asked c.args.t c.args.clear.now c.args.sealed.now) in
-    let test = c.passes_both.ensures [] in
-    let e : c.one_if.result ≡ f c.loop-p.p = c.one_if.ensures ∙ ap (λ (a : Bool). if a then single 16 c.loop-p.p else 0) test in
-    (omega arith, unions_turn f c.loop-p.p c.loop-p.invariant.1 e c.union-set.ensures)
+    let b = c.loop-p in
+    let f = asked c.args.t c.args.seen.now.clear c.args.seen.now.sealed in
+    elim c.if-passes_both.branch [
+      | then-passes_both w ↦ unions_turn f b.p b.invariant (rw (← c.passes_both.ensures [], w.if-passes_both.true) w.single.ensures) (w.set-is ∙ w.union-set.ensures)
+      | else-passes_both w ↦ unions_kept f b.p b.invariant (rw (← c.passes_both.ensures [], w.if-passes_both.false) refl) w.set-is
+    ]
 
 pub returns : goal.returns
 unfolding passes_both clear_offends sealed_offends
 returns c tied =
-    let e : c.loop-p.p ≡ c.args.s = omega arith in
-    rw e at c.loop-p.invariant.1
+    let e : c.loop-p.p ≡ c.args.seen.now.file.header.subjects = omega arith in
+    rw e at c.loop-p.invariant

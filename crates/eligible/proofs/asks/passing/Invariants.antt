@@ -1,5 +1,5 @@
 -- The subjects so far, one more a turn.
-use Prim.Native.Nat.{ℕ, ◌≤◌, ◌-◌}
+use Prim.Native.Nat.{ℕ}
 use mathlib.Core.Path.{◌≡◌}
 use mathlib.Core.List.{List, []}
 use lib.ListN.{get_or}
@@ -15,7 +15,4 @@ abbrev asked : Columns → List ℕ → List ℕ → ℕ → ℕ
 asked t clear sealed p = if passes_both (with_tied t []) (get_or clear p 0) (get_or sealed p 0) then single 16 p else 0
 
 abbrev pub invariant-loop-p : goal.invariant-loop-p
-invariant-loop-p l = (l.p ≤ l.s) × (l.set ≡ unions (asked l.t l.clear l.sealed) l.p)
-
-abbrev pub decreases-loop-p : goal.decreases-loop-p
-decreases-loop-p l = l.s - l.p
+invariant-loop-p l = l.set ≡ unions (asked l.t l.seen.clear l.seen.sealed) l.p

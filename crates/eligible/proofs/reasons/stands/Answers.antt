@@ -1,7 +1,7 @@
 -- What the subject sees is its entry of what all see.
-use Prim.Native.Nat.{◌<◌}
 use mathlib.Core.Path.{refl, ◌∙◌}
 use native.Mathlib.Omega.{arith}
+use Rattle.layout.specs.Held.{night_held}
 use Rattle.format.specs.Layout.{night_in}
 use Rattle.eligible.specs.Asked.{Sees}
 use Rattle.eligible.proofs.Asked.{clear-at, sealed_at}
@@ -18,8 +18,8 @@ bounds-sealed-subject c = omega (arith, c.requires.2, c.requires.0.counts.subjec
 pub returns : goal.returns
 unfolding night_in
 returns c =
-    let N = night_in c.args.file.now c.args.h in
+    let N = night_held c.args.file in
     let most = c.requires.0.counts.subjects_most in
-    let all : Sees N c.all_seen-seen.result.clear c.all_seen-seen.result.sealed = record { in-clear = c.all_seen-seen.ensures.0; in_sealed = c.all_seen-seen.ensures.1 } in
+    let all : Sees N c.all_seen.result.0 c.all_seen.result.1 = record { in-clear = c.all_seen.ensures.0; in_sealed = c.all_seen.ensures.1 } in
     c.stands_by.ensures
     ∙ rw (clear-at N most _ _ all c.args.subject c.requires.2, sealed_at N most _ _ all c.args.subject c.requires.2) refl

@@ -5,6 +5,7 @@ use Prim.Native.Nat.{ℕ}
 use mathlib.Core.Bool.{false}
 use mathlib.Core.List.{List}
 use lib.ListN.{length}
+use Rattle.layout.specs.Held.{night_held}
 use Rattle.night.specs.declared.Node.{Node}
 use Rattle.night.specs.Night.{Night, node_of}
 use Rattle.night.specs.Kinds.{uses_right}
@@ -24,33 +25,33 @@ left_long N clear sealed seals sets tied i v w step is e = ap length e ∙ tied_
 pub stands_right-r-requires : goal.stands_right-r-requires
 unfolding night_in
 stands_right-r-requires c =
-    (c.requires.0, c.requires.1, c.requires.2, left_long (night_in c.args.file.now c.args.h) c.args.clear.now c.args.sealed.now _ _ c.args.tied.now c.args.i c.args.v c.requires.0 c.requires.1 c.requires.2 c.requires.4)
+    (c.requires.0, c.requires.1, c.requires.2, left_long (night_held c.args.seen.now.file) c.args.seen.now.clear c.args.seen.now.sealed _ _ c.args.tied.now c.args.i c.args.v c.requires.0 c.requires.1 c.requires.2 c.requires.4)
 
 pub returns-in_default : goal.returns-in_default
 unfolding night_in
 returns-in_default c =
-    out_right (night_in c.args.file.now c.args.h) c.args.i c.args.sees.clear c.args.sees.sealed c.requires.2 _ _ _ c.requires.5
+    out_right (night_held c.args.seen.now.file) c.args.i c.args.sees.clear c.args.sees.sealed c.requires.2 _ c.requires.5
     c.stands_right-r.ensures.2 c.in_default.is
 
 pub close-made-requires : goal.close-made-requires
 unfolding night_in
 close-made-requires c =
-    let N = night_in c.args.file.now c.args.h in
+    let N = night_held c.args.seen.now.file in
     let w = c.requires.0 in (
       w.sound.counts.subjects_most,
       omega (arith, (asked_step N c.args.i c.requires.1).0, w.sound.counts.nodes_most),
-      ap length c.stands_right-r.ensures.1 ∙ one_or_two (uses_right c.args.v.kind) _ (right_of N c.args.i).tied (left_long (night_in c.args.file.now c.args.h) c.args.clear.now c.args.sealed.now _ _ c.args.tied.now c.args.i c.args.v c.requires.0 c.requires.1 c.requires.2 c.requires.4),
+      ap length c.stands_right-r.ensures.1 ∙ one_or_two (uses_right c.args.v.kind) _ (right_of N c.args.i).tied (left_long (night_held c.args.seen.now.file) c.args.seen.now.clear c.args.seen.now.sealed _ _ c.args.tied.now c.args.i c.args.v c.requires.0 c.requires.1 c.requires.2 c.requires.4),
     )
 
 pub returns : goal.returns
 unfolding night_in
 returns c =
-    let N = night_in c.args.file.now c.args.h in
+    let N = night_held c.args.seen.now.file in
     let w = c.requires.0 in
     let there = asked_step N c.args.i c.requires.1 in
     let made =
-    closed N w.sound c.args.clear.now c.args.sealed.now w.sees c.args.i there.0 there.1 c.requires.2 (rw c.requires.2 at c.requires.3)
+    closed N w.sound c.args.seen.now.clear c.args.seen.now.sealed w.sees c.args.i there.0 there.1 c.requires.2 (rw c.requires.2 at c.requires.3)
     c.stands_right-r.ensures.0 (rw (c.requires.4, c.requires.2) at c.stands_right-r.ensures.1) c.close-made.ensures
     in
-    by_result N c.args.i c.args.sees.clear c.args.sees.sealed c.requires.2 c.requires.5 c.stands_right-r.ensures.2 c.in-Candidate.is made.0 made.1
+    by_result N c.args.i c.args.sees.clear c.args.sees.sealed c.requires.2 c.requires.5 c.stands_right-r.ensures.2 c.in-None.is made.0 made.1
     c.standing_by.ensures

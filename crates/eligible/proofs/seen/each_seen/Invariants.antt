@@ -1,5 +1,4 @@
 -- The array has what the subjects so far see, and nothing after them.
-use Prim.Native.Nat.{◌≤◌, ◌-◌}
 use mathlib.Core.Path.{◌≡◌}
 use lib.ListN.{length}
 use Rattle.laws.proofs.Upwards.{Agrees}
@@ -7,7 +6,4 @@ use Rattle.eligible.specs.Seen.{seen_from}
 use Rattle.eligible.proofs.seen.each_seen.Given as goal
 
 abbrev pub invariant-loop-p : goal.invariant-loop-p
-invariant-loop-p l = (length l.seen ≡ 16) × (l.p ≤ 16) × Agrees (λ before. seen_from l.sets l.own) 0 l.p l.seen
-
-abbrev pub decreases-loop-p : goal.decreases-loop-p
-decreases-loop-p l = 16 - l.p
+invariant-loop-p l = (length l.seen ≡ 16) × Agrees (λ before. seen_from l.sets l.own) 0 l.p l.seen

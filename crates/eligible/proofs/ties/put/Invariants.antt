@@ -1,5 +1,5 @@
 -- The room is the tied sets so far, and what it had after them.
-use Prim.Native.Nat.{ℕ, ◌≤◌, ◌-◌}
+use Prim.Native.Nat.{ℕ}
 use mathlib.Core.Path.{◌≡◌}
 use mathlib.Core.List.{List, ◌++◌}
 use lib.ListN.{length, get_or, drop}
@@ -13,7 +13,4 @@ abbrev tied_at : List ℕ → ℕ → ℕ → ℕ
 tied_at tied all k = if member all k then all else get_or tied k 0
 
 abbrev pub invariant-loop-k : goal.invariant-loop-k
-invariant-loop-k l = (l.k ≤ 64) × (length l.tied ≡ length l.initial.tied) × (l.tied ≡ each l.k (tied_at l.initial.tied l.all) ++ drop l.k l.initial.tied)
-
-abbrev pub decreases-loop-k : goal.decreases-loop-k
-decreases-loop-k l = 64 - l.k
+invariant-loop-k l = (length l.tied ≡ length l.initial.tied) × (l.tied ≡ each l.k (tied_at l.initial.tied l.all) ++ drop l.k l.initial.tied)

@@ -1,5 +1,5 @@
 -- The array is the holders so far, with nothing after them.
-use Prim.Native.Nat.{ℕ, ◌-◌}
+use Prim.Native.Nat.{ℕ}
 use mathlib.Core.Path.{◌≡◌, refl, sym, ◌∙◌}
 use mathlib.Core.List.{List}
 use native.Mathlib.Omega.{arith}
@@ -19,7 +19,7 @@ at tied choice opens seals n d sealed k = holders_of (events_to choice opens sea
 
 pub loop-k-init : goal.loop-k-init
 loop-k-init c =
-    (refl, omega arith, agrees_none (λ before. at c.args.tied c.args.choice.now c.args.opens c.args.seals c.args.n c.args.d c.ever_sealed-sealed.result) 0 64)
+    (refl, agrees_none (λ before. at c.args.tied c.args.choice.now c.args.opens c.args.seals c.args.n c.args.d c.ever_sealed-sealed.result) 0 64)
 
 pub loop-k-preserved : goal.loop-k-preserved
 loop-k-preserved c =
@@ -28,7 +28,7 @@ loop-k-preserved c =
     let f = at c.args.tied c.args.choice.now c.args.opens c.args.seals c.args.n c.args.d s in
     let group : c.group_of-group.result ≡ group_among c.args.tied s b.k = c.group_of-group.ensures in
     let e : c.holders_with.result ≡ f b.k = rw (← group) c.holders_with.ensures in
-    (simp length-set b.invariant.0, omega arith, agrees_more (λ before. f) 0 b.k c.holders_with.result b.all (omega arith) b.invariant.2 e)
+    (simp length-set b.invariant.0, agrees_more (λ before. f) 0 b.k c.holders_with.result b.all (omega arith) b.invariant.1 e)
 
 pub returns : goal.returns
 unfolding key_holders group_of
@@ -37,4 +37,4 @@ returns c =
     let b = c.loop-k in
     let f = at c.args.tied c.args.choice.now c.args.opens c.args.seals c.args.n c.args.d s.result in
     let e : b.k ≡ 64 = omega arith in
-    rw (ever_to c.args.choice.now c.args.opens c.args.seals c.args.n c.args.d, ← s.ensures c.args.choice.now c.args.opens) (ext_get_or 0 b.all (each 64 f) (b.invariant.0 ∙ sym (each_length f 64)) (λ j l. rw e at (b.invariant.2 j)))
+    rw (ever_to c.args.choice.now c.args.opens c.args.seals c.args.n c.args.d, ← s.ensures c.args.choice.now c.args.opens) (ext_get_or 0 b.all (each 64 f) (b.invariant.0 ∙ sym (each_length f 64)) (λ j l. rw e at (b.invariant.1 j)))

@@ -1,5 +1,5 @@
 -- The array is the holders so far, with nothing after them.
-use Prim.Native.Nat.{ℕ, ◌≤◌, ◌-◌}
+use Prim.Native.Nat.{ℕ}
 use mathlib.Core.Path.{◌≡◌}
 use mathlib.Core.List.{List}
 use lib.ListN.{length}
@@ -15,7 +15,4 @@ abbrev at : List ℕ → List ℕ → List ℕ → List ℕ → ℕ → Delivery
 at tied choice opens seals n d sealed k = holders_of (events_to choice opens seals n d) (group_among tied sealed k)
 
 abbrev pub invariant-loop-k : goal.invariant-loop-k
-invariant-loop-k l = (length l.all ≡ 64) × (l.k ≤ 64) × Agrees (λ before. at l.tied l.choice l.opens l.seals l.n l.d l.sealed) 0 l.k l.all
-
-abbrev pub decreases-loop-k : goal.decreases-loop-k
-decreases-loop-k l = 64 - l.k
+invariant-loop-k l = (length l.all ≡ 64) × Agrees (λ before. at l.tied l.choice l.opens l.seals l.n l.d l.sealed) 0 l.k l.all

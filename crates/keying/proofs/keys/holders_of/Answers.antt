@@ -1,8 +1,6 @@
 -- The set grows by one node a turn.
 use native.Mathlib.Omega.{arith}
-use borrow.Kind.Array.{e_int, good_length}
-use mir.Syntax.{w64}
-use Prim.Native.Nat.{ℕ, ◌-◌}
+use Prim.Native.Nat.{ℕ}
 use mathlib.Core.Path.{◌≡◌, sym, ◌∙◌}
 use lib.ListN.{get_or}
 use Rattle.std.specs.Prelude.{if◌then◌else◌}
@@ -17,26 +15,18 @@ abbrev held : ℕ → ℕ → ℕ → ℕ → ℕ
 held group p opened sealed = if apart group (union opened sealed) then 0 else single 16 p
 
 pub loop-i-init : goal.loop-i-init
-loop-i-init c = (omega arith, sym (unions_none _))
-
-pub set_at-requires : goal.set_at-requires
-set_at-requires c =
-    good_length (e_int w64) 64 c.args.opens _ c.well_formed.1.0
-
-pub set_at-requires-in-loop-i : goal.set_at-requires-in-loop-i
-set_at-requires-in-loop-i c =
-    good_length (e_int w64) 64 c.args.seals _ c.well_formed.1.1.0
+loop-i-init c = sym (unions_none _)
 
 pub loop-i-preserved : goal.loop-i-preserved
 loop-i-preserved c =
-    let subject = c.subject_at.ensures in
-    let opened = c.set_at.ensures in
-    let sealed = c.set_at-in-loop-i.ensures in
-    let e = c.as_holder.ensures ∙ (λ k. held c.args.group (subject k) (opened k) (sealed k)) in
-    (omega arith, unions_turn _ c.loop-i.i c.loop-i.invariant.1 e c.union-all.ensures)
+    let subject = c.entry-subject.ensures in
+    let opened = c.entry.ensures in
+    let sealed = c.entry-in-loop-i.ensures in
+    let e = c.as_holder-holder.ensures ∙ (λ k. held c.args.group (subject k) (opened k) (sealed k)) in
+    unions_turn _ c.loop-i.i c.loop-i.invariant e c.union-all.ensures
 
 pub returns : goal.returns
 unfolding node_events
 returns c =
     let e : c.loop-i.i ≡ c.args.n = omega arith in
-    (rw e at c.loop-i.invariant.1) ∙ sym (holders_each (λ i. record { subject = get_or c.args.choice.now i 0; opened = get_or c.args.opens i 0; sealed = get_or c.args.seals i 0 }) c.args.group c.args.n)
+    (rw e at c.loop-i.invariant) ∙ sym (holders_each (λ i. record { subject = get_or c.args.choice.now i 0; opened = get_or c.args.opens i 0; sealed = get_or c.args.seals i 0 }) c.args.group c.args.n)

@@ -1,5 +1,5 @@
 -- The set grows by one node a turn.
-use Prim.Native.Nat.{ℕ, ◌≤◌, ◌-◌}
+use Prim.Native.Nat.{ℕ}
 use mathlib.Core.Path.{◌≡◌}
 use lib.ListN.{get_or}
 use Rattle.std.specs.Prelude.{if◌then◌else◌}
@@ -11,7 +11,4 @@ abbrev held : ℕ → ℕ → ℕ → ℕ → ℕ
 held group p opened sealed = if apart group (union opened sealed) then 0 else single 16 p
 
 abbrev pub invariant-loop-i : goal.invariant-loop-i
-invariant-loop-i l = (l.i ≤ l.n) × (l.all ≡ unions (λ j. held l.group (get_or l.choice j 0) (get_or l.opens j 0) (get_or l.seals j 0)) l.i)
-
-abbrev pub decreases-loop-i : goal.decreases-loop-i
-decreases-loop-i l = l.n - l.i
+invariant-loop-i l = l.all ≡ unions (λ j. held l.group (get_or l.choice j 0) (get_or l.opens j 0) (get_or l.seals j 0)) l.i

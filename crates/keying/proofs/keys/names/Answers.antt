@@ -1,5 +1,5 @@
 -- The array is the names so far, with nothing after them.
-use Prim.Native.Nat.{ℕ, ◌-◌}
+use Prim.Native.Nat.{ℕ}
 use mathlib.Core.Path.{◌≡◌, refl, sym, ap, ◌∙◌}
 use mathlib.Core.List.{List}
 use native.Mathlib.Omega.{arith}
@@ -17,14 +17,14 @@ abbrev at : List ℕ → ℕ → ℕ → ℕ
 at tied sealed k = lowest 64 (group_among tied sealed k)
 
 pub loop-k-init : goal.loop-k-init
-loop-k-init c = (refl, omega arith, agrees_none (λ before. at c.args.tied c.ever_sealed-sealed.result) 0 64)
+loop-k-init c = (refl, agrees_none (λ before. at c.args.tied c.ever_sealed-sealed.result) 0 64)
 
 pub loop-k-preserved : goal.loop-k-preserved
 loop-k-preserved c =
     let s = c.ever_sealed-sealed.result in
     let b = c.loop-k in
     let e : c.lowest.result ≡ at c.args.tied s b.k = c.lowest.ensures ∙ ap (lowest 64) c.group_of.ensures in
-    (simp length-set b.invariant.0, omega arith, agrees_more (λ before. at c.args.tied s) 0 b.k c.lowest.result b.all (omega arith) b.invariant.2 e)
+    (simp length-set b.invariant.0, agrees_more (λ before. at c.args.tied s) 0 b.k c.lowest.result b.all (omega arith) b.invariant.1 e)
 
 pub returns : goal.returns
 unfolding key_name group_of
@@ -32,4 +32,4 @@ returns c =
     let s = c.ever_sealed-sealed in
     let b = c.loop-k in
     let e : b.k ≡ 64 = omega arith in
-    λ subjects opens. rw (← s.ensures subjects opens) (ext_get_or 0 b.all (each 64 (at c.args.tied s.result)) (b.invariant.0 ∙ sym (each_length (at c.args.tied s.result) 64)) (λ j l. rw e at (b.invariant.2 j)))
+    λ subjects opens. rw (← s.ensures subjects opens) (ext_get_or 0 b.all (each 64 (at c.args.tied s.result)) (b.invariant.0 ∙ sym (each_length (at c.args.tied s.result) 64)) (λ j l. rw e at (b.invariant.1 j)))

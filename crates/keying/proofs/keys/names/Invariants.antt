@@ -1,5 +1,5 @@
 -- The array is the names so far, with nothing after them.
-use Prim.Native.Nat.{ℕ, ◌≤◌, ◌-◌}
+use Prim.Native.Nat.{ℕ}
 use mathlib.Core.Path.{◌≡◌}
 use mathlib.Core.List.{List}
 use lib.ListN.{length}
@@ -13,7 +13,4 @@ abbrev at : List ℕ → ℕ → ℕ → ℕ
 at tied sealed k = lowest 64 (group_among tied sealed k)
 
 abbrev pub invariant-loop-k : goal.invariant-loop-k
-invariant-loop-k l = (length l.all ≡ 64) × (l.k ≤ 64) × Agrees (λ before. at l.tied l.sealed) 0 l.k l.all
-
-abbrev pub decreases-loop-k : goal.decreases-loop-k
-decreases-loop-k l = 64 - l.k
+invariant-loop-k l = (length l.all ≡ 64) × Agrees (λ before. at l.tied l.sealed) 0 l.k l.all

@@ -1,8 +1,9 @@
--- Two halves of 32 bits.
-use mathlib.Core.Path.{sym, ◌∙◌}
-use Rattle.laws.proofs.BigEndian.{be_halves}
+-- Each byte 256 times the next.
+use native.Mathlib.Nat.{add-zero}
+use native.Mathlib.Omega.{arith}
+use Rattle.laws.specs.BigEndian.{be}
 use Rattle.layout.proofs.bytes.eight_in.Goals as goal
 
 pub returns : goal.returns
-returns c =
-    sym (be_halves c.args.file.now c.args.at 4 4 ∙ cc)
+unfolding be
+returns c = rw add-zero (omega (arith, c.from_be_bytes.ensures))

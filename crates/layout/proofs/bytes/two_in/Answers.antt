@@ -1,8 +1,9 @@
--- Two bytes, the first 256 times the second.
-use native.Mathlib.Nat.{add-zero, zero-add}
+-- Each byte 256 times the next.
+use native.Mathlib.Nat.{add-zero}
+use native.Mathlib.Omega.{arith}
 use Rattle.laws.specs.BigEndian.{be}
 use Rattle.layout.proofs.bytes.two_in.Goals as goal
 
 pub returns : goal.returns
 unfolding be
-returns c = simp (add-zero, zero-add) (cc)
+returns c = rw add-zero (omega (arith, c.from_be_bytes.ensures))

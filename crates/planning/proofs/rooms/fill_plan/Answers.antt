@@ -1,5 +1,6 @@
 -- The arrays hold the built plan and its keys, and fill the rooms two by two.
 use mathlib.Core.Path.{ap, ◌∙◌}
+use Rattle.layout.specs.Held.{night_held}
 use Rattle.format.specs.Layout.{night_in}
 use Rattle.keying.specs.Parts.{delivery_of}
 use Rattle.planning.proofs.Planned.{plan_written, keys_written}
@@ -21,10 +22,10 @@ returns c =
     let opens = c.all_opens-opens in
     let names = c.names-names in
     let given = c.delivery-delivery in
-    let N = night_in c.args.file.now c.args.h in
+    let N = night_held c.args.file.now in
     let B = c.requires.1 in
     let subjects = c.args.choice.now in
-    let sealed = given.ensures ∙ ap (delivery_of c.args.h) B.root_sealed in
+    let sealed = given.ensures ∙ ap (delivery_of c.args.file.now.header) B.root_sealed in
     let plan =
     plan_written N c.requires.0 subjects opens.result c.args.parts.seals c.args.parts.tied opens.ensures B.seals_all B.root_ties c.args.plan.now
     c.fill_pairs.ensures

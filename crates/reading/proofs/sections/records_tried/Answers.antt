@@ -1,23 +1,36 @@
 -- Part after part, each where those before it pass.
-use mathlib.Core.Path.{ap}
-use Rattle.laws.proofs.Trials.{stops_at, goes_on}
+use mathlib.Core.Path.{◌≡◌}
+use Rattle.std.specs.Prelude.{Err}
+use Rattle.std.proofs.Common.{rules}
 use Rattle.format.specs.Layout.{night_in}
-use Rattle.reading.specs.Answers.{tried_of}
 use Rattle.trials.specs.Trials.{record_trials}
+use Rattle.reading.proofs.Tried.{stopped, went_on}
 use Rattle.reading.proofs.sections.records_tried.Goals as goal
 
-pub returns-in_default : goal.returns-in_default
+pub returns-in_err-section_tried : goal.returns-in_err-section_tried
 unfolding record_trials night_in
-returns-in_default c = stops_at _ _ _ _ _ c.section_tried-relations.ensures (ap tried_of c.in_default.is)
+returns-in_err-section_tried c =
+    let same : c.from_residual.result ≡ Err c.in_err-section_tried.field-0.0 = search rules in
+    stopped _ _ c.section_tried.ensures c.in_err-section_tried.was same
 
-pub returns-in_default-left : goal.returns-in_default-left
+pub returns-in_err-left_tried : goal.returns-in_err-left_tried
 unfolding record_trials night_in
-returns-in_default-left c = goes_on _ _ _ _ c.section_tried-relations.ensures (ap tried_of c.in-Passed.is) (stops_at _ _ _ _ _ c.left_tried-left.ensures (ap tried_of c.in_default-left.is))
+returns-in_err-left_tried c =
+    let q = c.from_residual-in_err-left_tried.result in
+    let same : q ≡ Err c.in_err-left_tried.field-0.0 = search rules in
+    went_on _ _ q c.section_tried.ensures c.in_ok-section_tried.was (stopped _ _ c.left_tried.ensures c.in_err-left_tried.was same)
 
-pub returns-in_default-grants : goal.returns-in_default-grants
+pub returns-in_err-section_tried-2 : goal.returns-in_err-section_tried-2
 unfolding record_trials night_in
-returns-in_default-grants c = goes_on _ _ _ _ c.section_tried-relations.ensures (ap tried_of c.in-Passed.is) (goes_on _ _ _ _ c.left_tried-left.ensures (ap tried_of c.in-Passed-left.is) (stops_at _ _ _ _ _ c.section_tried-grants.ensures (ap tried_of c.in_default-grants.is)))
+returns-in_err-section_tried-2 c =
+    let q = c.from_residual-in_err-section_tried-2.result in
+    let same : q ≡ Err c.in_err-section_tried-2.field-0.0 = search rules in
+    went_on _ _ q c.section_tried.ensures c.in_ok-section_tried.was
+    (went_on _ _ q c.left_tried.ensures c.in_ok-left_tried.was (stopped _ _ c.section_tried-2.ensures c.in_err-section_tried-2.was same))
 
 pub returns : goal.returns
 unfolding record_trials night_in
-returns c = goes_on _ _ _ _ c.section_tried-relations.ensures (ap tried_of c.in-Passed.is) (goes_on _ _ _ _ c.left_tried-left.ensures (ap tried_of c.in-Passed-left.is) (goes_on _ _ _ _ c.section_tried-grants.ensures (ap tried_of c.in-Passed-grants.is) c.section_tried.ensures))
+returns c =
+    let q = c.section_tried-3.result in
+    went_on _ _ q c.section_tried.ensures c.in_ok-section_tried.was
+    (went_on _ _ q c.left_tried.ensures c.in_ok-left_tried.was (went_on _ _ q c.section_tried-2.ensures c.in_ok-section_tried-2.was c.section_tried-3.ensures))

@@ -1,18 +1,25 @@
 -- Part after part, each where those before it pass.
-use mathlib.Core.Path.{ap}
-use Rattle.laws.proofs.Trials.{stops_at, goes_on}
-use Rattle.reading.specs.Answers.{tried_of}
+use mathlib.Core.Path.{◌≡◌}
+use Rattle.std.specs.Prelude.{Err}
+use Rattle.std.proofs.Common.{rules}
 use Rattle.trials.specs.Trials.{tree_trials}
+use Rattle.reading.proofs.Tried.{stopped, went_on}
 use Rattle.reading.proofs.sections.tree_tried.Goals as goal
 
-pub returns-in_default : goal.returns-in_default
+pub returns-in_err-section_tried : goal.returns-in_err-section_tried
 unfolding tree_trials
-returns-in_default c = stops_at _ _ _ _ _ c.section_tried-nodes.ensures (ap tried_of c.in_default.is)
+returns-in_err-section_tried c =
+    let same : c.from_residual.result ≡ Err c.in_err-section_tried.field-0.0 = search rules in
+    stopped _ _ c.section_tried.ensures c.in_err-section_tried.was same
 
-pub returns-in_default-parents : goal.returns-in_default-parents
+pub returns-in_err-section_tried-2 : goal.returns-in_err-section_tried-2
 unfolding tree_trials
-returns-in_default-parents c = goes_on _ _ _ _ c.section_tried-nodes.ensures (ap tried_of c.in-Passed.is) (stops_at _ _ _ _ _ c.section_tried-parents.ensures (ap tried_of c.in_default-parents.is))
+returns-in_err-section_tried-2 c =
+    let same : c.from_residual-in_err-section_tried-2.result ≡ Err c.in_err-section_tried-2.field-0.0 = search rules in
+    went_on _ _ c.from_residual-in_err-section_tried-2.result c.section_tried.ensures c.in_ok-section_tried.was (stopped _ _ c.section_tried-2.ensures c.in_err-section_tried-2.was same)
 
 pub returns : goal.returns
 unfolding tree_trials
-returns c = goes_on _ _ _ _ c.section_tried-nodes.ensures (ap tried_of c.in-Passed.is) (goes_on _ _ _ _ c.section_tried-parents.ensures (ap tried_of c.in-Passed-parents.is) c.section_tried.ensures)
+returns c =
+    let q = c.section_tried-3.result in
+    went_on _ _ q c.section_tried.ensures c.in_ok-section_tried.was (went_on _ _ q c.section_tried-2.ensures c.in_ok-section_tried-2.was c.section_tried-3.ensures)

@@ -1,9 +1,0 @@
--- Each turn answers one case.
-use Prim.Native.Nat.{◌≤◌, ◌-◌}
-use Rattle.answers.proofs.main.Given as goal
-
-abbrev pub invariant-loop-k : goal.invariant-loop-k
-invariant-loop-k l = l.k ≤ 18446744073709551615
-
-abbrev pub decreases-loop-k : goal.decreases-loop-k
-decreases-loop-k l = 18446744073709551615 - l.k

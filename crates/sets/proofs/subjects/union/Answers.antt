@@ -1,8 +1,0 @@
--- The bits of a or of b are the definition itself.
-use mathlib.Core.Path.{refl}
-use Rattle.sets.specs.Sets.{union}
-use Rattle.sets.proofs.subjects.union.Goals as goal
-
-pub returns : goal.returns
-unfolding union
-returns c = refl

@@ -1,2 +1,0 @@
--- How tables are made.
-pub mod Made

@@ -1,6 +1,0 @@
--- Case by case.
-use mathlib.Core.Path.{refl}
-use Rattle.writing.proofs.refused.Goals as goal
-
-pub returns-in-Refused : goal.returns-in-Refused
-returns-in-Refused c = rw c.in-Refused.is refl
