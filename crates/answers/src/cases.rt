@@ -42,7 +42,7 @@ fn grants(rt: &impl Print, file: &[u8]) -> io::Result<()> {
             let n = records.len();
             println!(rt; "{from} {n}")
         }
-        Err(refusal) => lines::refused(rt, refusal),
+        Err(refusal) => println!(rt; "{refusal}"),
     }
 }
 
@@ -52,7 +52,7 @@ fn candidates(rt: &impl Print, file: &[u8]) -> io::Result<()> {
         Ok(h) => every_node(rt, file, h.nodes),
         Err(refusal) => {
             print!(rt; "candidates ")?;
-            lines::refused(rt, refusal)
+            println!(rt; "{refusal}")
         }
     }
 }
@@ -72,7 +72,7 @@ fn candidates_of(rt: &impl Print, file: &[u8], i: u8) -> io::Result<()> {
             lines::members(rt, set as u64)?;
             lines::end(rt)
         }
-        Err(refusal) => lines::refused(rt, refusal),
+        Err(refusal) => println!(rt; "{refusal}"),
     }
 }
 
@@ -95,20 +95,14 @@ fn cheapest(rt: &impl Print, file: &[u8], lent: Lengths) -> io::Result<bool> {
             lines::keys(rt, &keys, h.attributes)?;
             Ok(
                 rooms::kept(&choice, rooms::BYTE, h.nodes as usize)
-                    && plan_kept(&plan, &keys, h.nodes, h.attributes),
+                    && rooms::plan_kept(&plan, &keys, h.nodes, h.attributes),
             )
         }
         Err(refusal) => {
-            lines::refused(rt, refusal)?;
-            Ok(rooms::kept(&choice, rooms::BYTE, 0) && plan_kept(&plan, &keys, 0, 0))
+            println!(rt; "{refusal}")?;
+            Ok(rooms::kept(&choice, rooms::BYTE, 0) && rooms::plan_kept(&plan, &keys, 0, 0))
         }
     }
-}
-
-// Whether plan and keys hold their first contents past those of n nodes and of a attributes.
-fn plan_kept(plan: &[u64], keys: &[u64], n: u8, a: u8) -> bool {
-    rooms::kept(plan, rooms::WORD, 2 * (n as usize))
-        && rooms::kept(keys, rooms::WORD, 2 * (a as usize))
 }
 
 // The same of the plan for the offered choice, with the subjects as offered.
@@ -127,11 +121,11 @@ fn offered(rt: &impl Print, file: &[u8], offer: &[u8], lent: Lengths) -> io::Res
             let h = values::header(file);
             lines::nodes(rt, offer, &plan, h.nodes)?;
             lines::keys(rt, &keys, h.attributes)?;
-            Ok(plan_kept(&plan, &keys, h.nodes, h.attributes))
+            Ok(rooms::plan_kept(&plan, &keys, h.nodes, h.attributes))
         }
         Err(refusal) => {
-            lines::refused(rt, refusal)?;
-            Ok(plan_kept(&plan, &keys, 0, 0))
+            println!(rt; "{refusal}")?;
+            Ok(rooms::plan_kept(&plan, &keys, 0, 0))
         }
     }
 }

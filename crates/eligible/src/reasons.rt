@@ -94,6 +94,7 @@ fn stands_later(
     ensures { result ≡ standing (night_held seen.now.file) i sees.clear sees.sealed }
 {
     let r = stands_right(seen, i, v, sees, tied, trail);
+    // `let .. else`, a form that document 01 names, where a candidate goes on
     let by_right = r.out;
     let None = by_right else {
         return by_right;

@@ -49,14 +49,14 @@ fn cheapest(rt: &impl Print, file: &[u8], n: usize, p: usize, k: usize) -> io::R
             told(
                 rt,
                 rooms::kept(&choice, rooms::BYTE, h.nodes as usize)
-                    && plan_kept(&plan, &keys, h.nodes, h.attributes),
+                    && rooms::plan_kept(&plan, &keys, h.nodes, h.attributes),
             )
         }
         Err(refusal) => {
             refused(rt, refusal)?;
             told(
                 rt,
-                rooms::kept(&choice, rooms::BYTE, 0) && plan_kept(&plan, &keys, 0, 0),
+                rooms::kept(&choice, rooms::BYTE, 0) && rooms::plan_kept(&plan, &keys, 0, 0),
             )
         }
     }
@@ -76,19 +76,13 @@ fn offered(rt: &impl Print, file: &[u8], offer: &[u8], p: usize, k: usize) -> io
         Ok(total) => {
             print!(rt; ": total {total}")?;
             let h = values::header(file);
-            told(rt, plan_kept(&plan, &keys, h.nodes, h.attributes))
+            told(rt, rooms::plan_kept(&plan, &keys, h.nodes, h.attributes))
         }
         Err(refusal) => {
             refused(rt, refusal)?;
-            told(rt, plan_kept(&plan, &keys, 0, 0))
+            told(rt, rooms::plan_kept(&plan, &keys, 0, 0))
         }
     }
-}
-
-// Whether plan and keys hold their first contents past those of n nodes and of a attributes.
-fn plan_kept(plan: &[u64], keys: &[u64], n: u8, a: u8) -> bool {
-    rooms::kept(plan, rooms::WORD, 2 * (n as usize))
-        && rooms::kept(keys, rooms::WORD, 2 * (a as usize))
 }
 
 // Why a subject is out of a step. The offer holds the node and the subject, four bytes each.
@@ -102,7 +96,7 @@ fn reason(rt: &impl Print, file: &[u8], offer: &[u8]) -> io::Result<()> {
         Ok(None) => print!(rt; ": candidate"),
         Ok(Some(out)) => {
             print!(rt; ": ")?;
-            lines::reason(rt, out.table, out.condition, out.set)
+            lines::reason(rt, out)
         }
         Err(refusal) => refused(rt, refusal),
     }

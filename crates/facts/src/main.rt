@@ -26,6 +26,7 @@ fn zeros<const N: usize>() -> [u8; N]
 
 // Runs every case.
 fn run(rt: &impl Print, input: &[u8]) -> io::Result<()> {
+    // no `for`: a case says where the next one starts
     let mut at: usize = 0;
     while at < input.len() {
         at = case_at(rt, input, at)?;

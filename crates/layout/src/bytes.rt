@@ -1,5 +1,5 @@
 // Bytes and big-endian numbers of a slice. A byte past the end is read as 0.
-ghost use Rattle.std.specs.Prelude.{◌≡◌, ℕ, ◌+◌, ◌<◌, ◌≤◌, ◌^◌, length, get_or, if◌then◌else◌, ◌*◌, ltb};
+ghost use Rattle.std.specs.Prelude.{◌≡◌, ℕ, ◌+◌, ◌<◌, ◌≤◌, ◌^◌, length, get_or, if◌then◌else◌};
 ghost use Rattle.laws.specs.BigEndian.{be};
 
 // The byte at `at`.
@@ -58,7 +58,7 @@ pub(crate) fn padded(file: &[u8], at: usize) -> [u8; 30]
 }
 
 // The 16-bit number at `at`: the header has such numbers, and a grant its days. A short file is handed on by a copy of the reference, as in the records.
-// (Three widths are three types: a function each, with one test of the length.)
+// (Two widths are two types: a function each, with one test of the length.)
 pub(crate) fn two(file: &[u8], at: usize) -> u16
     requires { at < 2 ^ 31 }
     ensures { result ≡ be file.now at 2 }
@@ -90,17 +90,4 @@ pub(crate) fn four(file: &[u8], at: usize) -> u32
         return four_in(&bytes[..30], 0);
     }
     four_in(file, at)
-}
-
-// The 64-bit number at `at`, in the same way.
-pub(crate) fn eight(file: &[u8], at: usize) -> u64
-    requires { at < 2 ^ 31 }
-    ensures { result ≡ be file.now at 8 }
-{
-    if file.len() < at + 8 {
-        let here = file;
-        let bytes = padded(here, at);
-        return eight_in(&bytes[..30], 0);
-    }
-    eight_in(file, at)
 }

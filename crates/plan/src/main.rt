@@ -24,6 +24,6 @@ fn answer(rt: &impl Print, file: &[u8]) -> io::Result<()> {
             lines::nodes(rt, &choice, &plan, h.nodes)?;
             lines::keys(rt, &keys, h.attributes)
         }
-        Err(refusal) => lines::refused(rt, refusal),
+        Err(refusal) => println!(rt; "{refusal}"),
     }
 }

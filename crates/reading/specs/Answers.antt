@@ -1,5 +1,5 @@
 -- What each case of an answer says: document 01's number and place, or the values.
-use Rattle.std.specs.Prelude.{List, [], ℕ, ◌-◌, ◌≡◌, ◌↔◌, take, drop}
+use Rattle.std.specs.Prelude.{List, [], ℕ, ◌-◌, ◌≡◌, ◌↔◌, Result, Ok, Err, take, drop}
 use Rattle.laws.specs.Trials.{Says, answers, refuses}
 use Rattle.night.specs.declared.Header.{Header}
 use Rattle.night.specs.declared.refusals.Refusal.{Refusal}
@@ -20,6 +20,15 @@ GrantsTold said s part = (part ≡ grants_part said s) × (h : Header) × (said 
 -- the refusal of any other
 abbrev pub NotTold : Says Header → Refusal → Type 0
 NotTold verdict r = verdict ≡ refuses (number_of r.reason) r.place
+
+-- both together, the part as a list
+abbrev pub Told : Says Header → List ℕ → Result (List ℕ) Refusal → Type 0
+Told said s (Ok part) = GrantsTold said s part
+Told said s (Err r) = NotTold said r
+
+-- any two answers that this admits are the same
+abbrev pub ToldOnce : Type 0
+ToldOnce = (said : Says Header) (s : List ℕ) (a b : Result (List ℕ) Refusal) → Told said s a → Told said s b → a ≡ b
 
 -- which refusal is which
 pub record ToldNumbers : Type 0 where

@@ -1,10 +1,8 @@
 // Refusals 8 to 10: nodes.
-ghost use Rattle.std.specs.Prelude.{◌<◌, ◌≤◌, ◌-◌, ◌^◌, ◌≡◌, false, eqb, get_or, if◌then◌else◌};
-ghost use Rattle.laws.specs.First.{somewhere};
+ghost use Rattle.std.specs.Prelude.{◌<◌, ◌≤◌, ◌-◌, ◌^◌, ◌≡◌, get_or};
 ghost use Rattle.laws.specs.Trials.{verdict};
 ghost use Rattle.layout.specs.Held.{night_held};
 ghost use Rattle.night.specs.Kinds.{is_child, taken};
-ghost use Rattle.night.specs.Night.{node_of};
 ghost use Rattle.night.specs.Refusals.{said};
 ghost use Rattle.reading.specs.HasVisible.{HasVisible};
 ghost use Rattle.trials.specs.Trials.{is_leaf_of, leaf_before, attributes_bad, trials_of};

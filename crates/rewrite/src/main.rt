@@ -28,6 +28,6 @@ fn run(rt: &(impl Input + Print), lent: usize) -> io::Result<()> {
     let mut room = [0u8; LONGEST];
     match writing::rewrite(file, rooms::front(&mut room, lent)) {
         Ok(n) => rt.write_all(rooms::front(&mut room, n)),
-        Err(refusal) => lines::refused(rt, refusal),
+        Err(refusal) => println!(rt; "{refusal}"),
     }
 }

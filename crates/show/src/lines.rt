@@ -1,5 +1,5 @@
 // The lines of the answer.
-use night::refusals::Refusal;
+use model::Out;
 use sets::attributes;
 use std::io;
 
@@ -13,20 +13,16 @@ pub fn total(rt: &impl Print, total: u64) -> io::Result<()> {
     println!(rt; "total {total}")
 }
 
-// The only line of a refusal.
-pub fn refused(rt: &impl Print, refusal: Refusal) -> io::Result<()> {
-    println!(rt; "{refusal}")
-}
-
 // Why a subject is out: the table, the condition and what offends.
-pub fn reason(rt: &impl Print, table: u8, condition: u8, set: u64) -> io::Result<()> {
-    let word = match table {
+pub fn reason(rt: &impl Print, out: Out) -> io::Result<()> {
+    let word = match out.table {
         model::LEFT => "left",
         model::RIGHT => "right",
         _ => "result",
     };
+    let condition = out.condition;
     print!(rt; "{word} {condition} ")?;
-    members(rt, set)
+    members(rt, out.set)
 }
 
 // A line for each node.

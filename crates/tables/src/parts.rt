@@ -11,7 +11,7 @@ use crate::Columns;
 use night::Node;
 use sets::attributes;
 
-// No columns and no past.
+// No columns and no past: the name of the definition for what is derived.
 pub fn no_columns() -> Columns
     ensures { result ≡ columns_of blank }
 {

@@ -28,7 +28,7 @@ fn find(grants: &[Grant], relation: u8, subject: u8) -> Option<usize>
     grants.iter().position(|g| is_for(*g, relation, subject))
 }
 
-// The n grants from number `from` on.
+// The n grants from number `from` on: a lent slice of decoded structs is a form that document 01 names, in fixed memory, with how many count beside.
 fn decoded(file: &PlanFile<'_>, from: usize, n: usize) -> [Grant; AT_ONCE]
     requires { (n ≤ at_once) × (from + n < 2 ^ 64) }
     ensures { (k : ℕ) → k < n → get_or result k no_grant ≡ grant_of (night_held file.now) (from + k) }

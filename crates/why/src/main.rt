@@ -25,9 +25,9 @@ fn run(rt: &(impl Input + Print), node: u32, subject: u32) -> io::Result<()> {
     match planning::why(file, node, subject) {
         Ok(None) => println!(rt; "candidate"),
         Ok(Some(out)) => {
-            lines::reason(rt, out.table, out.condition, out.set)?;
+            lines::reason(rt, out)?;
             lines::end(rt)
         }
-        Err(refusal) => lines::refused(rt, refusal),
+        Err(refusal) => println!(rt; "{refusal}"),
     }
 }
