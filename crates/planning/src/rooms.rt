@@ -10,6 +10,7 @@ ghost use Rattle.eligible.specs.Answers.{BuiltFor};
 ghost use Rattle.planning.specs.Answers.{WrittenFor};
 
 use eligible::Built;
+use keying::keys::Plan;
 use keying::{built, keys};
 use layout::PlanFile;
 use night::refusals::{Reason, Refusal};
@@ -77,9 +78,16 @@ pub(crate) fn fill_plan(
     let opens = built::all_opens(file);
     let seals = parts.seals;
     let tied = parts.tied;
-    let names = keys::names(tied, seals, file.header.nodes);
+    let nodes = file.header.nodes;
+    let names = keys::names(&tied, &seals, nodes);
     let delivery = built::delivery(file.header, parts.sealed);
-    let holders = keys::holders(tied, choice, opens, seals, file.header.nodes, delivery);
+    let done = Plan {
+        choice,
+        opens: &opens,
+        seals: &seals,
+        nodes,
+    };
+    let holders = keys::holders(&tied, &done, delivery);
     fill_pairs(plan, opens, seals, file.header.nodes);
     fill_pairs(keys, names, holders, file.header.attributes);
 }

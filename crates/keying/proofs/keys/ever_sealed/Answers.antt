@@ -18,4 +18,4 @@ pub returns : goal.returns
 unfolding node_events
 returns c =
     let e : c.loop-i.i ≡ c.args.n = omega arith in
-    λ subjects opens. (rw e at c.loop-i.invariant) ∙ sym (ever_each (λ i. record { subject = get_or subjects i 0; opened = get_or opens i 0; sealed = get_or c.args.seals i 0 }) c.args.n)
+    λ subjects opens. (rw e at c.loop-i.invariant) ∙ sym (ever_each (λ i. record { subject = get_or subjects i 0; opened = get_or opens i 0; sealed = get_or c.args.seals.now i 0 }) c.args.n)

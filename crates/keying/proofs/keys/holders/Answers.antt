@@ -19,22 +19,22 @@ at tied choice opens seals n d sealed k = holders_of (events_to choice opens sea
 
 pub loop-k-init : goal.loop-k-init
 loop-k-init c =
-    (refl, agrees_none (λ before. at c.args.tied c.args.choice.now c.args.opens c.args.seals c.args.n c.args.d c.ever_sealed-sealed.result) 0 64)
+    (refl, agrees_none (λ before. at c.args.tied.now c.args.plan.now.choice.now c.args.plan.now.opens.now c.args.plan.now.seals.now c.args.plan.now.nodes c.args.d c.ever_sealed-sealed.result) 0 64)
 
 pub loop-k-preserved : goal.loop-k-preserved
 loop-k-preserved c =
     let s = c.ever_sealed-sealed.result in
     let b = c.loop-k in
-    let f = at c.args.tied c.args.choice.now c.args.opens c.args.seals c.args.n c.args.d s in
-    let group : c.group_of-group.result ≡ group_among c.args.tied s b.k = c.group_of-group.ensures in
-    let e : c.holders_with.result ≡ f b.k = rw (← group) c.holders_with.ensures in
-    (simp length-set b.invariant.0, agrees_more (λ before. f) 0 b.k c.holders_with.result b.all (omega arith) b.invariant.1 e)
+    let f = at c.args.tied.now c.args.plan.now.choice.now c.args.plan.now.opens.now c.args.plan.now.seals.now c.args.plan.now.nodes c.args.d s in
+    let group : c.group_of-group.result ≡ group_among c.args.tied.now s b.k = c.group_of-group.ensures in
+    let e : c.from.result ≡ f b.k = c.from.ensures ∙ rw (← group) c.holders_with.ensures in
+    (simp length-set b.invariant.0, agrees_more (λ before. f) 0 b.k c.from.result b.all (omega arith) b.invariant.1 e)
 
 pub returns : goal.returns
 unfolding key_holders group_of
 returns c =
     let s = c.ever_sealed-sealed in
     let b = c.loop-k in
-    let f = at c.args.tied c.args.choice.now c.args.opens c.args.seals c.args.n c.args.d s.result in
+    let f = at c.args.tied.now c.args.plan.now.choice.now c.args.plan.now.opens.now c.args.plan.now.seals.now c.args.plan.now.nodes c.args.d s.result in
     let e : b.k ≡ 64 = omega arith in
-    rw (ever_to c.args.choice.now c.args.opens c.args.seals c.args.n c.args.d, ← s.ensures c.args.choice.now c.args.opens) (ext_get_or 0 b.all (each 64 f) (b.invariant.0 ∙ sym (each_length f 64)) (λ j l. rw e at (b.invariant.1 j)))
+    rw (ever_to c.args.plan.now.choice.now c.args.plan.now.opens.now c.args.plan.now.seals.now c.args.plan.now.nodes c.args.d, ← s.ensures c.args.plan.now.choice.now c.args.plan.now.opens.now) (ext_get_or 0 b.all (each 64 f) (b.invariant.0 ∙ sym (each_length f 64)) (λ j l. rw e at (b.invariant.1 j)))

@@ -15,4 +15,4 @@ abbrev at : List ℕ → List ℕ → List ℕ → List ℕ → ℕ → Delivery
 at tied choice opens seals n d sealed k = holders_of (events_to choice opens seals n d) (group_among tied sealed k)
 
 abbrev pub invariant-loop-k : goal.invariant-loop-k
-invariant-loop-k l = (length l.all ≡ 64) × Agrees (λ before. at l.tied l.choice l.opens l.seals l.n l.d l.sealed) 0 l.k l.all
+invariant-loop-k l = (length l.all ≡ 64) × Agrees (λ before. at l.tied l.plan.choice.now l.plan.opens.now l.plan.seals.now l.plan.nodes l.d l.sealed) 0 l.k l.all

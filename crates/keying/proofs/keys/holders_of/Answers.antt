@@ -28,5 +28,5 @@ loop-i-preserved c =
 pub returns : goal.returns
 unfolding node_events
 returns c =
-    let e : c.loop-i.i ≡ c.args.n = omega arith in
-    (rw e at c.loop-i.invariant) ∙ sym (holders_each (λ i. record { subject = get_or c.args.choice.now i 0; opened = get_or c.args.opens i 0; sealed = get_or c.args.seals i 0 }) c.args.group c.args.n)
+    let e : c.loop-i.i ≡ c.args.plan.now.nodes = omega arith in
+    (rw e at c.loop-i.invariant) ∙ sym (holders_each (λ i. record { subject = get_or c.args.plan.now.choice.now i 0; opened = get_or c.args.plan.now.opens.now i 0; sealed = get_or c.args.plan.now.seals.now i 0 }) c.args.group c.args.plan.now.nodes)

@@ -11,4 +11,4 @@ abbrev held : ℕ → ℕ → ℕ → ℕ → ℕ
 held group p opened sealed = if apart group (union opened sealed) then 0 else single 16 p
 
 abbrev pub invariant-loop-i : goal.invariant-loop-i
-invariant-loop-i l = l.all ≡ unions (λ j. held l.group (get_or l.choice j 0) (get_or l.opens j 0) (get_or l.seals j 0)) l.i
+invariant-loop-i l = l.all ≡ unions (λ j. held l.group (get_or l.plan.choice.now j 0) (get_or l.plan.opens.now j 0) (get_or l.plan.seals.now j 0)) l.i

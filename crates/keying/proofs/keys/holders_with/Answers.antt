@@ -8,4 +8,4 @@ pub returns : goal.returns
 returns c =
     let nodes = c.holders_of.ensures in
     let user = c.as_holder.ensures in
-    c.union.ensures ∙ (λ i. union (nodes i) (user i)) ∙ sym (holders_to c.args.choice.now c.args.opens c.args.seals c.args.n c.args.d c.args.group)
+    c.union.ensures ∙ (λ i. union (nodes i) (user i)) ∙ sym (holders_to c.args.plan.now.choice.now c.args.plan.now.opens.now c.args.plan.now.seals.now c.args.plan.now.nodes c.args.d c.args.group)

@@ -17,14 +17,14 @@ abbrev at : List ℕ → ℕ → ℕ → ℕ
 at tied sealed k = lowest 64 (group_among tied sealed k)
 
 pub loop-k-init : goal.loop-k-init
-loop-k-init c = (refl, agrees_none (λ before. at c.args.tied c.ever_sealed-sealed.result) 0 64)
+loop-k-init c = (refl, agrees_none (λ before. at c.args.tied.now c.ever_sealed-sealed.result) 0 64)
 
 pub loop-k-preserved : goal.loop-k-preserved
 loop-k-preserved c =
     let s = c.ever_sealed-sealed.result in
     let b = c.loop-k in
-    let e : c.lowest.result ≡ at c.args.tied s b.k = c.lowest.ensures ∙ ap (lowest 64) c.group_of.ensures in
-    (simp length-set b.invariant.0, agrees_more (λ before. at c.args.tied s) 0 b.k c.lowest.result b.all (omega arith) b.invariant.1 e)
+    let e : c.from.result ≡ at c.args.tied.now s b.k = c.from.ensures ∙ (c.lowest.ensures ∙ ap (lowest 64) c.group_of.ensures) in
+    (simp length-set b.invariant.0, agrees_more (λ before. at c.args.tied.now s) 0 b.k c.from.result b.all (omega arith) b.invariant.1 e)
 
 pub returns : goal.returns
 unfolding key_name group_of
@@ -32,4 +32,4 @@ returns c =
     let s = c.ever_sealed-sealed in
     let b = c.loop-k in
     let e : b.k ≡ 64 = omega arith in
-    λ subjects opens. rw (← s.ensures subjects opens) (ext_get_or 0 b.all (each 64 (at c.args.tied s.result)) (b.invariant.0 ∙ sym (each_length (at c.args.tied s.result) 64)) (λ j l. rw e at (b.invariant.1 j)))
+    λ subjects opens. rw (← s.ensures subjects opens) (ext_get_or 0 b.all (each 64 (at c.args.tied.now s.result)) (b.invariant.0 ∙ sym (each_length (at c.args.tied.now s.result) 64)) (λ j l. rw e at (b.invariant.1 j)))
