@@ -69,7 +69,7 @@ fn candidates_of(rt: &impl Print, file: &[u8], i: u8) -> io::Result<()> {
     match planning::candidates(file, i as usize) {
         Ok(set) => {
             print!(rt; "{i} ")?;
-            lines::members(rt, set as u64)?;
+            lines::members(rt, u64::from(set))?;
             lines::end(rt)
         }
         Err(refusal) => println!(rt; "{refusal}"),

@@ -17,7 +17,7 @@ use night::{Grant, Header, Node, Relation};
 fn code(refusal: Refusal) -> u64
     ensures { result ≡ refusal_code (number_of refusal.reason) refusal.place }
 {
-    (refusal.reason.number() as u64) * 4_294_967_296 + (refusal.place as u64)
+    u64::from(refusal.reason.number()) * 4_294_967_296 + u64::from(refusal.place)
 }
 
 // The verdict on a file.
