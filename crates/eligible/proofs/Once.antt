@@ -14,6 +14,8 @@ use Rattle.trials.specs.Trials.{check_of}
 use Rattle.model.specs.Reasons.{Standing}
 use Rattle.eligible.specs.declared.Built.{Built}
 use Rattle.eligible.specs.declared.PassOver.{PassOver}
+use Rattle.eligible.specs.declared.NodeSet.{NodeSet}
+use Rattle.eligible.specs.declared.Stood.{Stood}
 use Rattle.eligible.specs.Answers.{BuiltFor, PassOnce, SetOnce, StandingOnce}
 
 -- what a plan is made of
@@ -29,8 +31,8 @@ same_header : (s : List ℕ) (h k : Header) → check_of s ≡ answers h → che
 same_header s h k e f = let both : ◌≡◌ {A = Says Header} (answers h) (answers k) = sym e ∙ f in cc
 
 -- two refusals are the same whatever would have been answered
-again : {n p m q : ℕ} → ◌≡◌ {A = Says Header} (refuses n p) (refuses m q) → ◌≡◌ {A = Says PassOver} (refuses n p) (refuses m q)
-again {n} {p} {m} {q} e =
+again : {A B : Type 0} {n p m q : ℕ} → ◌≡◌ {A = Says A} (refuses n p) (refuses m q) → ◌≡◌ {A = Says B} (refuses n p) (refuses m q)
+again {A} {B} {n} {p} {m} {q} e =
     let number : n ≡ m = cc in
     let place : p ≡ q = cc in
     rw (number, place) refl
@@ -46,7 +48,20 @@ pass_once s (Err r) (Ok p) x y = absurd (never p.header (number_of r.reason) r.p
 pass_once s (Err r) (Err q) x y = said_once PassOver (Err r) (Err q) (again (sym x ∙ y))
 
 pub set_once : SetOnce
-set_once s i a b x y = said_once ℕ a b (x ∙ sym y)
+set_once s i (Ok n) (Ok m) x y =
+    let same : n.header ≡ m.header = same_header s n.header m.header x.0 y.0 in
+    let y' = rw (← same) at y in
+    ap Ok (λ j. record { header = same j; set = (x.1 ∙ sym y'.1) j })
+set_once s i (Ok n) (Err r) x y = absurd (never n.header (number_of r.reason) r.place (sym y ∙ x.0))
+set_once s i (Err r) (Ok n) x y = absurd (never n.header (number_of r.reason) r.place (sym x ∙ y.0))
+set_once s i (Err r) (Err q) x y = said_once NodeSet (Err r) (Err q) (again (sym x ∙ y))
 
 pub standing_once : StandingOnce
-standing_once s i p a b x y = said_once Standing a b (x ∙ sym y)
+standing_once s i p (Ok a) (Ok b) x y =
+    let same : a.header ≡ b.header = same_header s a.header b.header x.0 y.0 in
+    let both : ◌≡◌ {A = Says Standing} (answers a.out) (answers b.out) = sym x.1 ∙ y.1 in
+    let out : a.out ≡ b.out = cc in
+    ap Ok (λ j. record { header = same j; out = out j })
+standing_once s i p (Ok a) (Err r) x y = absurd (never a.out (number_of r.reason) r.place (sym y ∙ x.1))
+standing_once s i p (Err r) (Ok a) x y = absurd (never a.out (number_of r.reason) r.place (sym x ∙ y.1))
+standing_once s i p (Err r) (Err q) x y = said_once Stood (Err r) (Err q) (again (sym x ∙ y))

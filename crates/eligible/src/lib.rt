@@ -43,6 +43,20 @@ pub struct PassOver {
     pub built: Built,
 }
 
+// The candidates of a node of an accepted file, with the header's values.
+#[derive(Clone, Copy)]
+pub struct NodeSet {
+    pub header: Header,
+    pub set: u16,
+}
+
+// By what a subject is out of a step of an accepted file, nothing where it is a candidate, with the header's values.
+#[derive(Clone, Copy)]
+pub struct Stood {
+    pub header: Header,
+    pub out: Option<Out>,
+}
+
 // The pass over a checked file: one walk from the root. Past the last node stands who a leaf of nothing would have.
 fn passed(file: PlanFile<'_>) -> PassOver
     requires { Promised (night_held file) }
@@ -110,21 +124,22 @@ fn set_of(file: PlanFile<'_>, i: usize) -> u16
 }
 
 // The candidates of a node, for any bytes.
-pub fn candidate_set(file: &[u8], node: usize) -> Result<u16, Refusal>
+pub fn candidate_set(file: &[u8], node: usize) -> Result<NodeSet, Refusal>
     ensures { SetSays file.now node result }
 {
     let header = reading::check(file)?;
-    Ok(set_of(
-        PlanFile {
-            bytes: file,
-            header,
-        },
-        node,
-    ))
+    let file = PlanFile {
+        bytes: file,
+        header,
+    };
+    Ok(NodeSet {
+        header,
+        set: set_of(file, node),
+    })
 }
 
-// By what a subject is out of a step, nothing where it is a candidate; or the refusal.
-pub fn standing(file: &[u8], node: u32, subject: u32) -> Result<Option<Out>, Refusal>
+// How a subject stands to a step, for any bytes.
+pub fn standing(file: &[u8], node: u32, subject: u32) -> Result<Stood, Refusal>
     ensures { StandingSays file.now node subject result }
 {
     let header = reading::check(file)?;
@@ -138,5 +153,8 @@ pub fn standing(file: &[u8], node: u32, subject: u32) -> Result<Option<Out>, Ref
             place: node,
         });
     }
-    Ok(reasons::stands(file, node as usize, subject as usize))
+    Ok(Stood {
+        header,
+        out: reasons::stands(file, node as usize, subject as usize),
+    })
 }

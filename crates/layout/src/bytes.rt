@@ -1,6 +1,7 @@
 // Bytes and big-endian numbers of a slice. A byte past the end is read as 0.
-ghost use Rattle.std.specs.Prelude.{◌≡◌, ℕ, ◌+◌, ◌<◌, ◌≤◌, ◌^◌, length, get_or, if◌then◌else◌};
+ghost use Rattle.std.specs.Prelude.{◌≡◌, ℕ, ◌+◌, ◌*◌, ◌<◌, ◌≤◌, ◌^◌, ltb, length, get_or, if◌then◌else◌};
 ghost use Rattle.laws.specs.BigEndian.{be};
+ghost use Rattle.laws.specs.First.{first};
 
 // The byte at `at`.
 pub(crate) fn byte(file: &[u8], at: usize) -> u8
@@ -90,4 +91,30 @@ pub(crate) fn four(file: &[u8], at: usize) -> u32
         return four_in(&bytes[..30], 0);
     }
     four_in(file, at)
+}
+
+// The 64-bit number at `at`, in the same way.
+pub(crate) fn eight(file: &[u8], at: usize) -> u64
+    requires { at < 2 ^ 31 }
+    ensures { result ≡ be file.now at 8 }
+{
+    if file.len() < at + 8 {
+        let here = file;
+        let bytes = padded(here, at);
+        return eight_in(&bytes[..30], 0);
+    }
+    eight_in(file, at)
+}
+
+// Of n 32-bit numbers from `at` on, which the file has whole, the first that is over `most`, or n where none is.
+pub(crate) fn first_over_in(file: &[u8], at: usize, n: usize, most: u32) -> usize
+    requires { (at < 2 ^ 31) × (n < 256) × (at + 4 * n ≤ length file.now) }
+    ensures { result ≡ first (λ p. ltb most (be file.now (at + 4 * p) 4)) n }
+{
+    for p in 0..n {
+        if most < four_in(file, at + 4 * p) {
+            return p;
+        }
+    }
+    n
 }

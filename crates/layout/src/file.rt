@@ -3,7 +3,8 @@
 // stay in registers elsewhere.
 ghost use Rattle.std.specs.Prelude.{◌≡◌, ◌<◌, ◌+◌, ◌*◌, ◌^◌, ltb};
 ghost use Rattle.laws.specs.First.{first};
-ghost use Rattle.format.specs.Layout.{relation_at, grant_at, node_at, pair_at, nth_price};
+ghost use Rattle.format.specs.Layout.{relation_at, grant_at, node_at, pair_at, nth_price, nodes_from};
+ghost use Rattle.night.specs.Versions.{node_length};
 ghost use Rattle.night.specs.Night.{relation_of, grant_of, node_of, pair_of, step_price, link_price};
 ghost use Rattle.layout.specs.Held.{night_held};
 
@@ -59,6 +60,83 @@ impl<'a> PlanFile<'a> {
             places::nodes_from(h) + versions::nodes_length(h.version, i as u8),
             h.version,
         )
+    }
+
+    // The kind of node i alone, for a caller that asks no more of it: the whole node goes through memory where it has several callers. The same of the six fields below.
+    pub fn kind(&self, i: usize) -> u8
+        ensures { result ≡ (node_of (night_held self.now) i).kind }
+    {
+        let h = self.header;
+        if h.nodes as usize <= i {
+            return 0;
+        }
+        bytes::byte(self.bytes, node_from(h, i))
+    }
+
+    // The left operand of node i.
+    pub fn left(&self, i: usize) -> u8
+        ensures { result ≡ (node_of (night_held self.now) i).left }
+    {
+        let h = self.header;
+        if h.nodes as usize <= i {
+            return 0;
+        }
+        bytes::byte(self.bytes, node_from(h, i) + 1)
+    }
+
+    // The right operand of node i.
+    pub fn right(&self, i: usize) -> u8
+        ensures { result ≡ (node_of (night_held self.now) i).right }
+    {
+        let h = self.header;
+        if h.nodes as usize <= i {
+            return 0;
+        }
+        bytes::byte(self.bytes, node_from(h, i) + 2)
+    }
+
+    // The number x of node i: at a leaf its relation.
+    pub fn x(&self, i: usize) -> u8
+        ensures { result ≡ (node_of (night_held self.now) i).x }
+    {
+        let h = self.header;
+        if h.nodes as usize <= i {
+            return 0;
+        }
+        bytes::byte(self.bytes, node_from(h, i) + 3)
+    }
+
+    // The set of node i.
+    pub fn set(&self, i: usize) -> u64
+        ensures { result ≡ (node_of (night_held self.now) i).set }
+    {
+        let h = self.header;
+        if h.nodes as usize <= i {
+            return 0;
+        }
+        bytes::eight(self.bytes, node_from(h, i) + 8)
+    }
+
+    // What node i needs in clear.
+    pub fn needed(&self, i: usize) -> u64
+        ensures { result ≡ (node_of (night_held self.now) i).needed }
+    {
+        let h = self.header;
+        if h.nodes as usize <= i {
+            return 0;
+        }
+        bytes::eight(self.bytes, node_from(h, i) + 16)
+    }
+
+    // The size of node i.
+    pub fn size(&self, i: usize) -> u32
+        ensures { result ≡ (node_of (night_held self.now) i).size }
+    {
+        let h = self.header;
+        if h.nodes as usize <= i {
+            return 0;
+        }
+        bytes::four(self.bytes, node_from(h, i) + 24)
     }
 
     // Pair i.
@@ -117,6 +195,11 @@ impl<'a> PlanFile<'a> {
         if h.nodes as usize + n <= i {
             return n;
         }
+        // one test of the length stands for the whole row
+        let at = places::step_prices_from(h) + 4 * cell(h, i, 0);
+        if at + 4 * n <= self.bytes.len() {
+            return bytes::first_over_in(self.bytes, at, n, most);
+        }
         for p in 0..n {
             if most < self.price(cell(h, i, p)) {
                 return p;
@@ -124,6 +207,14 @@ impl<'a> PlanFile<'a> {
         }
         n
     }
+}
+
+// Where node i stands, for any that a file can have.
+fn node_from(h: Header, i: usize) -> usize
+    requires { i < 256 }
+    ensures { (result ≡ nodes_from h + node_length h.version * i) × (result < 1_600_000) }
+{
+    places::nodes_from(h) + versions::nodes_length(h.version, i as u8)
 }
 
 // A relation's record.

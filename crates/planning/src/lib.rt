@@ -16,7 +16,7 @@ use night::refusals::Refusal;
 pub fn candidates(file: &[u8], node: usize) -> Result<u16, Refusal>
     ensures { said result ≡ candidates_of file.now node }
 {
-    eligible::candidate_set(file, node)
+    Ok(eligible::candidate_set(file, node)?.set)
 }
 
 // Why a subject is out of a step: the table (1 the left operand's least view, 2 the right one's, 3 the result), the condition, and the lowest
@@ -25,7 +25,7 @@ pub fn candidates(file: &[u8], node: usize) -> Result<u16, Refusal>
 pub fn why(file: &[u8], node: u32, subject: u32) -> Result<Option<Out>, Refusal>
     ensures { said result ≡ why_of file.now node subject }
 {
-    eligible::standing(file, node, subject)
+    Ok(eligible::standing(file, node, subject)?.out)
 }
 
 // The cheapest plan's total and the steps.

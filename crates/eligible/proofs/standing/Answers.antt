@@ -10,12 +10,12 @@ use Rattle.eligible.proofs.standing.Goals as goal
 pub returns-in_err-header : goal.returns-in_err-header
 returns-in_err-header c =
     let p = err_from_is_err_and c.from_residual.result c.from_residual.ensures.1 in
-    rw (p.1, p.2) (sym (why_unread c.args.file.now c.args.node c.args.subject _ _ (sym c.in_err-header.ensures)))
+    rw (p.1, p.2) (why_unread c.args.file.now c.args.node c.args.subject _ _ (sym c.in_err-header.ensures))
 
 pub returns-then-not_asked : goal.returns-then-not_asked
 unfolding night_in
 returns-then-not_asked c =
-    sym (why_unasked c.args.file.now c.args.node c.args.subject c.in_ok-header.header (sym c.in_ok-header.ensures) (sym c.not_asked.ensures ∙ c.if-not_asked.true))
+    why_unasked c.args.file.now c.args.node c.args.subject c.in_ok-header.header (sym c.in_ok-header.ensures) (sym c.not_asked.ensures ∙ c.if-not_asked.true)
 
 pub stands-requires : goal.stands-requires
 unfolding night_in
@@ -28,5 +28,7 @@ pub returns : goal.returns
 unfolding night_in
 returns c =
     let h = c.in_ok-header.header in
-    ap answers c.stands.ensures
-    ∙ sym (why_answered c.args.file.now c.args.node c.args.subject h (sym c.in_ok-header.ensures) (sym c.not_asked.ensures ∙ c.if-not_asked.false))
+    let read = sym c.in_ok-header.ensures in (
+      read,
+      why_answered c.args.file.now c.args.node c.args.subject h read (sym c.not_asked.ensures ∙ c.if-not_asked.false) ∙ ap answers (sym c.stands.ensures),
+    )
